@@ -1,0 +1,64 @@
+-- Laws of `any`, `keep` and `each`. Assumes nothing.
+use mathlib.Core.Path.{_≡_, refl, sym, ap, ap₂, _∙_}
+use mathlib.Core.Bool.{Bool, true, false, cond, not, _&&_, _||_, and-false}
+use mathlib.Core.List.{List, [], _∷_, map}
+use mathlib.Core.Logic.{_≢_}
+use Prim.Native.Nat.{ℕ, zero, suc, _+_, _<_, _≤_}
+use native.Mathlib.Numerals.{add-one}
+use native.Mathlib.Omega.{arith}
+use lib.Dec.{eqb}
+use borrow.Author.Tests.{eqb-true, eqb-false}
+use Rattle.beliefs.specs.Lists.{any, all, keep, each}
+
+module _ {A : Type 0} where
+  pub any-map : {B : Type 0} (f : B → Bool) (g : A → B) (l : List A) → any f (map g l) ≡ any (λ a. f (g a)) l
+  any-map f g [] = refl
+  any-map f g (a ∷ l) = ap (λ (x : Bool). f (g a) || x) (any-map f g l)
+
+  pub any-ext : (f g : A → Bool) → ((a : A) → f a ≡ g a) → (l : List A) → any f l ≡ any g l
+  any-ext f g h [] = refl
+  any-ext f g h (a ∷ l) = ap₂ (λ (x y : Bool). x || y) (h a) (any-ext f g h l)
+
+  pub any-and : (k : Bool) (f : A → Bool) (l : List A) → any (λ a. k && f a) l ≡ (k && any f l)
+  any-and true f l = refl
+  any-and false f [] = refl
+  any-and false f (a ∷ l) = any-and false f l
+
+  pub any-never : (f : A → Bool) → ((a : A) → f a ≡ false) → (l : List A) → any f l ≡ false
+  any-never f h [] = refl
+  any-never f h (a ∷ l) = rw (h a, any-never f h l)
+
+  pub any-keep : (f k : A → Bool) (l : List A) → any f (keep k l) ≡ any (λ a. k a && f a) l
+  any-keep f k [] = refl
+  any-keep f k (a ∷ l) = go (k a) (any-keep f k l)
+    where
+      go : (e : Bool) → any f (keep k l) ≡ any (λ a. k a && f a) l → any f (cond e (a ∷ keep k l) (keep k l)) ≡ ((e && f a) || any (λ a. k a && f a) l)
+      go true ih = ap (λ (x : Bool). f a || x) ih
+      go false ih = ih
+
+-- every number below a bound
+module _ (f : ℕ → Bool) where
+  pub each-none : each f 0 ≡ true
+  unfolding each
+  each-none = refl
+
+  pub each-more : (n : ℕ) → each f n ≡ true → f n ≡ true → each f (n + 1) ≡ true
+  unfolding each
+  each-more n h e = rw (add-one, h, e)
+
+  -- one that fails, and one at a time
+  pub each-false : (n k : ℕ) → k < n → f k ≡ false → each f n ≡ false
+  unfolding each
+  each-false zero k h e = absurd (omega arith)
+  each-false (suc n) k h e = go (eqb k n) refl (λ l. each-false n k l e)
+    where
+      go : (b : Bool) → eqb k n ≡ b → (k < n → each f n ≡ false) → (each f n && f n) ≡ false
+      go true q ih = let s : k ≡ n = eqb-true k n q in rw (← s, e) (and-false (each f k))
+      go false q ih = let s : k ≢ n = eqb-false k n q in rw (ih (omega arith))
+
+  pub each-at : (n : ℕ) → each f n ≡ true → (k : ℕ) → k < n → f k ≡ true
+  each-at n h k l = go (f k) refl
+    where
+      go : (b : Bool) → f k ≡ b → f k ≡ true
+      go true q = q
+      go false q = cc (h, each-false n k l q)

@@ -1,0 +1,66 @@
+-- "Cases on both sides": P1 to P10, from bytes, proved together by computing the definitions.
+use mathlib.Core.Path.{_≡_, refl}
+use mathlib.Core.Bool.{true}
+use mathlib.Core.Option.{Option·elim}
+use mathlib.Core.List.{List, [], _∷_, map}
+use Prim.Native.Nat.{ℕ}
+use Rattle.bits.specs.Bit.{bit, withBit, withoutBit, below, lowest}
+use Rattle.beliefs.specs.Lists.{each}
+use Rattle.beliefs.specs.Numbers.{notEmpty, notAllowed, noFrame}
+use Rattle.beliefs.specs.Account.{Account, told}
+use Rattle.beliefs.specs.Policy.{permits, rowFits, valid, mirrored, rowOf, rowsOf, valueRead}
+use Rattle.beliefs.specs.Stack.{marked, called, enable, disable, revert, granted, walk}
+use Rattle.beliefs.specs.Words.{operationOf, strayIn, outsideOf, decoded}
+use Rattle.beliefs.specs.Trace.{step, runFrom, stackAfter, run}
+use Rattle.beliefs.specs.Derivation.{mayTake, follow, judge, judged, ours, derived}
+
+-- the bytes of a policy, those of a trace, and what is asked: the trace's answers, the derivation for a target where the
+-- trace ends, or whether a derivation is accepted there
+pub data Asked : Type 0 where
+  answers : Asked
+  derivation : ℕ → Asked
+  acceptance : ℕ → List ℕ → Asked
+
+pub record Case : Type 0 where
+  pub policy : List ℕ
+  pub trace : List ℕ
+  pub asked : Asked
+  pub expected : Account
+
+-- what the definitions give, with room for 256 bytes
+abbrev found : List ℕ → List ℕ → Asked → Account
+found p trace answers = run true p trace 256
+found p trace (derivation t) = derived p (map marked (stackAfter p trace [])) t 256
+found p trace (acceptance t steps) = judged p (map marked (stackAfter p trace [])) t steps
+
+abbrev given : List ℕ → ℕ → Account
+given bytes n = record { number = 0; figure = n; written = bytes }
+
+abbrev policy : ℕ → List ℕ
+policy first = first ∷ 0x10 ∷ 0xC0 ∷ 0x80 ∷ 0x00 ∷ []
+
+abbrev A : List ℕ
+A = 0x00 ∷ 0x00 ∷ 0x40 ∷ 0x00 ∷ 0x01 ∷ 0x00 ∷ 0xA0 ∷ 0x00 ∷ 0xA0 ∷ 0x04 ∷ 0x60 ∷ 0x00 ∷ 0xA0 ∷ 0x00 ∷ 0x80 ∷ 0x00 ∷ 0xA0 ∷ 0x00 ∷ 0x20 ∷ 0x00 ∷ 0xA0 ∷ 0x00 ∷ []
+
+-- trace A up to its first check
+abbrev A3 : List ℕ
+A3 = 0x00 ∷ 0x00 ∷ 0x40 ∷ 0x00 ∷ 0x01 ∷ 0x00 ∷ []
+
+abbrev pub cases : List Case
+cases =
+    record { policy = policy 0x08; trace = A; asked = answers; expected = given (0x00 ∷ 0x00 ∷ 0x00 ∷ 0x42 ∷ 0x81 ∷ 0x00 ∷ 0x81 ∷ 0x00 ∷ 0x81 ∷ 0x00 ∷ 0x41 ∷ []) 11 }
+    ∷ record { policy = policy 0x08; trace = A3; asked = derivation 0; expected = given (0x02 ∷ 0x40 ∷ 0x41 ∷ 0x80 ∷ 0x81 ∷ 0xC0 ∷ 0xC0 ∷ []) 7 }
+    ∷ record { policy = policy 0x08; trace = A3; asked = acceptance 0 (0x02 ∷ 0x40 ∷ 0x41 ∷ 0x80 ∷ 0x81 ∷ 0xC0 ∷ 0xC0 ∷ []); expected = told 0 7 }
+    ∷ record { policy = policy 0x08; trace = A3; asked = acceptance 0 (0x02 ∷ 0x40 ∷ 0x41 ∷ 0x80 ∷ 0x81 ∷ 0xC0 ∷ []); expected = told 11 0 }
+    ∷ record { policy = policy 0x08; trace = A3; asked = acceptance 0 []; expected = told 11 0 }
+    ∷ record { policy = policy 0x08; trace = A3; asked = acceptance 0 (0x03 ∷ []); expected = told 10 0 }
+    ∷ record { policy = policy 0x08; trace = 0x02 ∷ 0x00 ∷ 0x40 ∷ 0x00 ∷ 0xA0 ∷ 0x00 ∷ []; asked = answers; expected = given (0x00 ∷ 0x00 ∷ 0x81 ∷ []) 3 }
+    ∷ record { policy = policy 0x08; trace = 0x00 ∷ 0x00 ∷ 0x60 ∷ 0x00 ∷ 0x40 ∷ 0x00 ∷ 0xA0 ∷ 0x00 ∷ 0x80 ∷ 0x00 ∷ 0xA0 ∷ 0x00 ∷ []; asked = answers; expected = given (0x00 ∷ 0x00 ∷ 0x00 ∷ 0x41 ∷ 0x00 ∷ 0x81 ∷ []) 6 }
+    ∷ record { policy = policy 0x88; trace = 0x00 ∷ 0x00 ∷ 0xA0 ∷ 0x04 ∷ 0x80 ∷ 0x04 ∷ 0xA0 ∷ 0x04 ∷ []; asked = answers; expected = given (0x00 ∷ 0x41 ∷ 0x00 ∷ 0x81 ∷ []) 4 }
+    ∷ record { policy = policy 0x08; trace = 0x00 ∷ 0x00 ∷ 0xA0 ∷ 0x00 ∷ []; asked = answers; expected = given (0x00 ∷ 0x81 ∷ []) 2 }
+    ∷ record { policy = policy 0x08; trace = 0x20 ∷ 0x00 ∷ []; asked = answers; expected = told 7 0 }
+    ∷ []
+
+pub proved : map (λ (c : Case). found (valueRead (c .policy)) (c .trace) (c .asked)) cases ≡ map (λ (c : Case). c .expected) cases
+unfolding run runFrom stackAfter step called enable disable revert granted walk decoded operationOf strayIn outsideOf permits valid rowFits each mirrored rowOf rowsOf valueRead bit withBit withoutBit below lowest derived ours judged judge follow mayTake Option·elim
+proved = refl
