@@ -6,7 +6,8 @@ use lib.Dec.{eqb, ltb, leb}
 use lib.ListN.{length, getD, take, drop, replicate}
 use Rattle.bits.specs.Bit.{bit, below}
 use Rattle.beliefs.specs.Lists.{all, each}
-use Rattle.beliefs.specs.Numbers.{tooFew, leftOver, bitSet}
+use Rattle.beliefs.specs.Numbers.{tooFew, leftOver, bitSet, noRoom, badPolicy}
+use Rattle.beliefs.specs.Account.{Account, told}
 
 -- 0 empty, 1 full
 abbrev pub start : List ℕ → ℕ
@@ -105,3 +106,11 @@ valueRead bs =
 -- writing: the one byte form
 unfoldable pub bytesWritten : List ℕ → List ℕ
 bytesWritten p = headed p / 256 ∷ headed p % 256 ∷ rowsBytes (width (targets p)) (take (signers p) (drop 3 p))
+
+-- into room for so many bytes: 13, 9
+unfoldable pub writing : List ℕ → ℕ → Account
+writing p room =
+    cond (valid p)
+    (cond (ltb room (size (signers p) (targets p))) (told noRoom 0)
+    (record { number = 0; figure = size (signers p) (targets p); written = bytesWritten p }))
+    (told badPolicy 0)
