@@ -1,3 +1,4 @@
 pub mod Unique
 pub mod Lists
 pub mod Granted
+pub mod Words

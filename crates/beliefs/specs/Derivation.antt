@@ -10,7 +10,8 @@ use Rattle.beliefs.specs.Lists.{all, empty}
 use Rattle.beliefs.specs.Numbers.{noTarget, noFrame, noRoom, notAllowed, notEmpty, forbidden}
 use Rattle.beliefs.specs.Account.{Account, told}
 use Rattle.beliefs.specs.Policy.{targets, permits}
-use Rattle.beliefs.specs.Stack.{Marked, walk}
+use Rattle.beliefs.specs.declared.Marked.{Marked}
+use Rattle.beliefs.specs.Stack.{nobody, walk}
 
 -- an entry of a chain: a frame with the signer that it speaks for, a signer, or T
 pub data Entry : Type 0 where
@@ -19,9 +20,6 @@ pub data Entry : Type 0 where
   target : Entry
 
 -- rule 0, take n: n from 1 to the depth; the n-th has T enabled and none of the first n - 1 has T disabled
-abbrev pub nobody : Marked
-nobody = record { signer = 0; enabled = 0; disabled = 0 }
-
 unfoldable pub mayTake : ℕ → ℕ → List Marked → Bool
 mayTake t n ms =
     (leb 1 n && leb n (length ms))

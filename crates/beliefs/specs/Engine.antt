@@ -46,14 +46,13 @@ pub record Gives (r : Answer) (left : List ℕ) (m : Moved) : Type 0 where
   pub byte : r .byte ≡ m .byte
   pub state : left ≡ m .state
 
+-- an operation that the caller has decoded: exactly, and against the belief sets of any stack that the state pictures
 module _ (Pictures : List ℕ → List Frame → Type 0) (counts : Bool) where
-  -- the answer is the definition's, and the words picture the stack after the operation
   pub record Serves (r : Answer) (left : List ℕ) (o : Outcome) : Type 0 where
     pub number : r .number ≡ o .number
     pub byte : r .byte ≡ answerByte counts o
     pub pictures : Pictures left (o .stack)
 
-  -- an operation that the caller has decoded
   pub record Serve (p s : List ℕ) (op : Operation) (r : Answer) (left : List ℕ) (m : Moved) : Type 0 where
     pub gives : Gives r left m
     pub serves : valid p ≡ true → inside p op ≡ true → (st : List Frame) → Pictures s st → Serves r left (step p op st)
@@ -72,3 +71,13 @@ pub record Operated (n lent byte : ℕ) (left : List ℕ) (m : Moved) : Type 0 w
   pub number : n ≡ m .number
   pub answer : byte ≡ cond (eqb (m .number) 0) (m .byte) lent
   pub state : left ≡ m .state
+
+module _ (Pictures : List ℕ → List Frame → Type 0) (counts : Bool) where
+  pub record Answers (n lent byte : ℕ) (left : List ℕ) (o : Outcome) : Type 0 where
+    pub number : n ≡ o .number
+    pub answer : byte ≡ cond (eqb (o .number) 0) (answerByte counts o) lent
+    pub pictures : Pictures left (o .stack)
+
+  pub record Operate (fits : Bool) (act : Operation → Moved) (p s : List ℕ) (w n lent byte : ℕ) (left : List ℕ) : Type 0 where
+    pub exact : Operated n lent byte left (guarded fits act p w s)
+    pub answers : valid p ≡ true → fits ≡ true → (st : List Frame) → Pictures s st → Answers n lent byte left (served p (decoded (signers p) (targets p) w 0) st)

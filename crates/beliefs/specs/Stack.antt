@@ -4,6 +4,7 @@ use mathlib.Core.List.{List, [], _∷_, map}
 use Prim.Native.Nat.{ℕ, zero, suc}
 use lib.Dec.{eqb}
 use Rattle.bits.specs.Bit.{bit, withBit, withoutBit, lowest}
+use Rattle.beliefs.specs.declared.Marked.{Marked}
 use Rattle.beliefs.specs.declared.Seen.{Seen}
 use Rattle.beliefs.specs.Lists.{any, all, keep, empty}
 use Rattle.beliefs.specs.Policy.{start, targets, permits}
@@ -97,13 +98,11 @@ granted p t [] = false
 granted p t (f ∷ r) = any (λ b. on t b && all (permitted p t) (f .principal ∷ b .chain)) (f .beliefs)
 
 -- what the walk reads of a frame
-pub record Marked : Type 0 where
-  pub signer : ℕ
-  pub enabled : ℕ
-  pub disabled : ℕ
-
 abbrev pub marked : Frame → Marked
 marked f = record { signer = f .principal .signer; enabled = f .enabled; disabled = f .disabled }
+
+abbrev pub nobody : Marked
+nobody = record { signer = 0; enabled = 0; disabled = 0 }
 
 abbrev pub decides : Bool → Seen
 decides v = record { granted = v; looked = 1 }
