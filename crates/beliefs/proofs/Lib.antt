@@ -1,4 +1,6 @@
 pub mod Unique
 pub mod Lists
+pub mod Policy
 pub mod Granted
 pub mod Words
+pub mod Engine

@@ -1,0 +1,62 @@
+-- One word, for every engine: each way out of an engine's `operate` keeps its promise. Assumes nothing.
+use mathlib.Core.Path.{_≡_, refl, sym, ap, _∙_}
+use mathlib.Core.Logic.{_≢_}
+use mathlib.Core.Bool.{Bool, true, false, cond}
+use mathlib.Core.List.{List}
+use Prim.Native.Nat.{ℕ}
+use native.Mathlib.Omega.{arith}
+use lib.Dec.{eqb}
+use borrow.Author.Tests.{ne-eqb}
+use Rattle.beliefs.specs.declared.Operation.{Operation}
+use Rattle.beliefs.specs.declared.Word.{Word as Held}
+use Rattle.beliefs.specs.declared.Decoded.{Decoded}
+use Rattle.beliefs.specs.declared.Decoded.the-variants.{Word, Refused}
+use Rattle.beliefs.specs.declared.Answer.{Answer}
+use Rattle.beliefs.specs.Policy.{signers, targets, valid}
+use Rattle.beliefs.specs.Stack.{Frame}
+use Rattle.beliefs.specs.Words.{decoded}
+use Rattle.beliefs.specs.Trace.{Outcome, answerByte, step, served}
+use Rattle.beliefs.specs.Engine.{inside, Moved, Serves, Serve, decodedIn, guarded, Operated, Answers, Operate}
+use Rattle.beliefs.proofs.Words.{Fair, decoded-fair}
+
+module _ (Pictures : List ℕ → List Frame → Type 0) (counts fits : Bool) (act : Operation → Moved) (p s : List ℕ) (w lent : ℕ) where
+  never : {A : Type 0} → true ≡ false → A
+  never e = let z : _≡_ {A = ℕ} 0 1 = cc in absurd (omega arith)
+
+  -- 13
+  pub bad-policy : valid p ≡ false → Operate Pictures counts fits act p s w 13 lent lent s
+  unfolding guarded
+  bad-policy e = record { exact = rw e (record { number = refl; answer = refl; state = refl }); answers = λ v. never (sym v ∙ e) }
+
+  module _ (v : valid p ≡ true) where
+    -- 14
+    pub bad-state : fits ≡ false → Operate Pictures counts fits act p s w 14 lent lent s
+    unfolding guarded
+    bad-state e = record { exact = rw (v, e) (record { number = refl; answer = refl; state = refl }); answers = λ _ f. never (sym f ∙ e) }
+
+    module _ (f : fits ≡ true) (d : Decoded) (e : d ≡ decoded (signers p) (targets p) w 0) where
+      -- 4, 3, 5 or 6
+      pub bad-word : (n : ℕ) → d ≡ Refused n → Operate Pictures counts fits act p s w n lent lent s
+      unfolding guarded
+      bad-word n q =
+          let told : decoded (signers p) (targets p) w 0 ≡ Refused n = sym e ∙ q in
+          let nz : n ≢ 0 = rw told at (decoded-fair p w 0) in
+          record {
+              exact = rw (v, f, told) (record { number = refl; answer = rw (ne-eqb n 0 nz); state = refl });
+              answers = λ _ _ st h. rw told (record { number = refl; answer = rw (ne-eqb n 0 nz); pictures = h }) }
+
+      -- 7, 8, or the answer
+      pub done-word : (x : Held) → d ≡ Word x → (r : Answer) (left : List ℕ) → Serve Pictures counts p s (x .op) r left (act (x .op))
+        → (byte : ℕ) → byte ≡ cond (eqb (r .number) 0) (r .byte) lent → Operate Pictures counts fits act p s w (r .number) lent byte left
+      unfolding guarded
+      done-word x q r left h byte b =
+          let told : decoded (signers p) (targets p) w 0 ≡ Word x = sym e ∙ q in
+          let i : inside p (x .op) ≡ true = rw told at (decoded-fair p w 0) in
+          record {
+              exact = rw (v, f, told) (record { number = h .gives .number; answer = b ∙ written (h .gives .number) (h .gives .byte); state = h .gives .state });
+              answers = λ _ _ st k. rw told (answered (h .serves v i st k)) }
+        where
+          written : {m n y z : ℕ} → m ≡ n → y ≡ z → cond (eqb m 0) y lent ≡ cond (eqb n 0) z lent
+          written a c = cc
+          answered : {o : Outcome} → Serves Pictures counts r left o → Answers Pictures counts (r .number) lent byte left o
+          answered k = record { number = k .number; answer = b ∙ written (k .number) (k .byte); pictures = k .pictures }

@@ -1,0 +1,45 @@
+-- At depth 63 nothing is done; else a frame is stored above the others, and the depth is one more.
+use borrow.Author.Needs.{needs}
+use borrow.Author.Tests.{lt-ltb, le-ltb}
+use mathlib.Core.Path.{refl, ap}
+use mathlib.Core.List.{List}
+use Prim.Native.Nat.{ℕ}
+use lib.ListN.{set}
+use Rattle.walk.specs.State.{callIn}
+use Rattle.walk.proofs.call.Statement.{statement}
+use Rattle.walk.proofs.call.Tie as tie
+
+depth-requires : tie.Need-depth-requires
+depth-requires c κs = search needs
+
+returns : tie.Need-returns
+unfolding callIn
+returns c = rw (← c .before .depth .ensures, le-ltb _ _ (c .if1 .taken)) (record { number = refl; byte = refl; state = refl })
+
+first-marks-requires : tie.Need-first-marks-requires
+first-marks-requires c κs = search needs
+
+set-frame-requires : tie.Need-set-frame-requires
+set-frame-requires c κs = search needs
+
+add-state : tie.Need-add-state
+add-state c = search needs
+
+element-write-state : tie.Need-element-write-state
+element-write-state c = search needs
+
+returns-2 : tie.Need-returns-2
+unfolding callIn
+returns-2 c = rw (← c .before .before .before .before .depth .ensures, lt-ltb _ _ (c .before .before .before .if1 .left), ← c .before .before .first-marks .ensures, ← c .set-frame .ensures) (record { number = refl; byte = refl; state = refl })
+
+pub call-spec : {M : Type 1} → statement M
+call-spec =
+    tie.close
+    (tie.spec
+    depth-requires
+    returns
+    first-marks-requires
+    set-frame-requires
+    add-state
+    element-write-state
+    returns-2)

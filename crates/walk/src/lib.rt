@@ -1,0 +1,247 @@
+// The walk: frames with marks in a lent state of 190 words, the operations on them in place, and the check from newest to oldest.
+ghost use mathlib.Core.Path.{_≡_};
+ghost use mathlib.Core.Bool.{Bool, true, cond};
+ghost use Prim.Native.Nat.{ℕ};
+ghost use lib.Dec.{eqb};
+ghost use Rattle.beliefs.specs.Lists.{each};
+ghost use Rattle.beliefs.specs.Stack.{startMarks, walk};
+ghost use Rattle.beliefs.specs.Engine.{Gives, Serve, Operate};
+ghost use Rattle.walk.specs.State.{depth, frameAt, frames, put, remarked, markIn, callIn, returnIn, checkIn, stepIn, inUse, unused, frameFits, fits};
+ghost use Rattle.walk.specs.Coherent.{Pictures};
+
+use beliefs::Answer;
+use beliefs::Decoded;
+use beliefs::Marked;
+use beliefs::Operation;
+use beliefs::Seen;
+
+// The depth. A state that says more than 63 is taken to be full.
+pub fn depth(state: &[u64; 190]) -> u64
+    ensures { λ r. ⌜ r ≡ depth (now (state .entry)) ⌝ }
+{
+    let d = state[0];
+    if d < 63 { d } else { 63 }
+}
+
+// The frame above k others: zeros where there is no room for one.
+pub fn frame_at(state: &[u64; 190], k: u64) -> Marked
+    ensures { λ r. ⌜ r ≡ frameAt (now (state .entry)) k ⌝ }
+{
+    let whole: &[u64] = state;
+    if 62 < k {
+        return Marked { signer: 0, enabled: 0, disabled: 0 };
+    }
+    let at = (3 * k) as usize;
+    Marked { signer: whole[at + 1], enabled: whole[at + 2], disabled: whole[at + 3] }
+}
+
+// Stores a frame above k others, where there is room for one.
+fn set_frame(state: &mut [u64; 190], k: u64, frame: Marked)
+    ensures { λ r. ⌜ now (state .exit) ≡ put (now (state .entry)) k frame ⌝ }
+{
+    let whole: &[u64] = state;
+    if 62 < k {
+        return;
+    }
+    let at = (3 * k) as usize;
+    state[at + 1] = frame.signer;
+    state[at + 2] = frame.enabled;
+    state[at + 3] = frame.disabled;
+}
+
+// The walk from the newest frame to the oldest: the verdict on a target, and the frames looked at.
+pub fn check(policy: &[u64; 35], state: &[u64; 190], target: u8) -> Seen
+    ensures { λ r. ⌜ r ≡ walk (now (policy .entry)) target (frames (now (state .entry))) ⌝ }
+{
+    let mut left = depth(state);
+    let mut looked: u64 = 0;
+    loop {
+        if left == 0 {
+            break Seen { granted: false, looked };
+        }
+        left -= 1;
+        looked += 1;
+        let frame = frame_at(state, left);
+        if !policy::permits(policy, frame.signer, target) {
+            break Seen { granted: false, looked };
+        }
+        if bits::has(frame.enabled, target) {
+            break Seen { granted: true, looked };
+        }
+        if bits::has(frame.disabled, target) {
+            break Seen { granted: false, looked };
+        }
+    }
+}
+
+// A frame after enable, disable or revert.
+fn remark(op: Operation, m: Marked) -> Marked
+    ensures { λ r. ⌜ r ≡ remarked op m ⌝ }
+{
+    match op {
+        Operation::Call(_) => m,
+        Operation::Return => m,
+        Operation::Enable(t) => Marked { signer: m.signer, enabled: bits::with(m.enabled, t), disabled: m.disabled },
+        Operation::Disable(t) => Marked { signer: m.signer, enabled: bits::without(m.enabled, t), disabled: bits::with(m.disabled, t) },
+        Operation::Revert(t) => Marked { signer: m.signer, enabled: bits::without(m.enabled, t), disabled: m.disabled },
+        Operation::Check(_) => m,
+    }
+}
+
+// Enable, disable or revert by the newest frame.
+fn mark(state: &mut [u64; 190], op: Operation) -> Answer
+    ensures { λ r. ⌜ Gives r (now (state .exit)) (markIn op (now (state .entry))) ⌝ }
+{
+    let d = depth(state);
+    if d == 0 {
+        return Answer { number: beliefs::NO_FRAME, byte: 0 };
+    }
+    let frame = remark(op, frame_at(state, d - 1));
+    set_frame(state, d - 1, frame);
+    Answer { number: beliefs::ACCEPTED, byte: 0 }
+}
+
+// The enabled marks of a new frame above d others: those of the start at the bottom, else none.
+fn first_marks(policy: &[u64; 35], d: u64) -> u64
+    ensures { λ r. ⌜ r ≡ cond (eqb d 0) (startMarks (now (policy .entry))) 0 ⌝ }
+{
+    if d != 0 {
+        return 0;
+    }
+    if policy::is_full(policy) { bits::ones(policy::targets(policy)) } else { 0 }
+}
+
+// A new newest frame.
+fn call(policy: &[u64; 35], state: &mut [u64; 190], signer: u8) -> Answer
+    ensures { λ r. ⌜ Gives r (now (state .exit)) (callIn (now (policy .entry)) signer (now (state .entry))) ⌝ }
+{
+    let d = depth(state);
+    if 63 <= d {
+        return Answer { number: beliefs::TOO_DEEP, byte: 0 };
+    }
+    let enabled = first_marks(policy, d);
+    set_frame(state, d, Marked { signer: signer as u64, enabled, disabled: 0 });
+    state[0] = d + 1;
+    Answer { number: beliefs::ACCEPTED, byte: 0 }
+}
+
+// The newest frame goes, and leaves zeros.
+fn leave(state: &mut [u64; 190]) -> Answer
+    ensures { λ r. ⌜ Gives r (now (state .exit)) (returnIn (now (state .entry))) ⌝ }
+{
+    let d = depth(state);
+    if d == 0 {
+        return Answer { number: beliefs::NO_FRAME, byte: 0 };
+    }
+    set_frame(state, d - 1, Marked { signer: 0, enabled: 0, disabled: 0 });
+    state[0] = d - 1;
+    Answer { number: beliefs::ACCEPTED, byte: 0 }
+}
+
+// A check by the newest frame.
+fn ask(policy: &[u64; 35], state: &[u64; 190], target: u8) -> Answer
+    ensures { λ r. ⌜ Gives r (now (state .entry)) (checkIn (now (policy .entry)) target (now (state .entry))) ⌝ }
+{
+    if depth(state) == 0 {
+        return Answer { number: beliefs::NO_FRAME, byte: 0 };
+    }
+    let seen = check(policy, state, target);
+    let looked = (seen.looked % 64) as u8;
+    if seen.granted {
+        Answer { number: beliefs::ACCEPTED, byte: 64 + looked }
+    } else {
+        Answer { number: beliefs::ACCEPTED, byte: 128 + looked }
+    }
+}
+
+// One operation that the caller has decoded.
+pub fn serve(policy: &[u64; 35], state: &mut [u64; 190], op: Operation) -> Answer
+    ensures { λ r. ⌜ Serve (Pictures (now (policy .entry))) true (now (policy .entry)) (now (state .entry)) op r (now (state .exit)) (stepIn (now (policy .entry)) (now (state .entry)) op) ⌝ }
+{
+    let whole: &[u64] = state;
+    match op {
+        Operation::Call(s) => call(policy, state, s),
+        Operation::Return => leave(state),
+        Operation::Enable(_) => mark(state, op),
+        Operation::Disable(_) => mark(state, op),
+        Operation::Revert(_) => mark(state, op),
+        Operation::Check(t) => ask(policy, state, t),
+    }
+}
+
+// Whether a frame has a signer below S and marks for targets below N only.
+fn in_use(signers: u64, targets: u64, frame: Marked) -> bool
+    ensures { λ r. ⌜ r ≡ inUse signers targets frame ⌝ }
+{
+    if signers <= frame.signer {
+        return false;
+    }
+    if !bits::fits(frame.enabled, targets) {
+        return false;
+    }
+    bits::fits(frame.disabled, targets)
+}
+
+// Whether a frame is all zeros.
+fn is_unused(frame: Marked) -> bool
+    ensures { λ r. ⌜ r ≡ unused frame ⌝ }
+{
+    if frame.signer != 0 {
+        return false;
+    }
+    if frame.enabled != 0 {
+        return false;
+    }
+    frame.disabled == 0
+}
+
+// Whether the frame above k others, or the room for it, is as number 14 asks.
+fn frame_fits(policy: &[u64; 35], state: &[u64; 190], k: u64) -> bool
+    ensures { λ r. ⌜ r ≡ frameFits (now (policy .entry)) (now (state .entry)) k ⌝ }
+{
+    let frame = frame_at(state, k);
+    if k < state[0] {
+        in_use(policy::signers(policy), policy::targets(policy), frame)
+    } else {
+        is_unused(frame)
+    }
+}
+
+// Whether number 14 does not refuse the state.
+pub fn valid(policy: &[u64; 35], state: &[u64; 190]) -> bool
+    ensures { λ r. ⌜ r ≡ fits (now (policy .entry)) (now (state .entry)) ⌝ }
+{
+    if 63 < state[0] {
+        return false;
+    }
+    let mut k: u64 = 0;
+    while k < 63 {
+        if !frame_fits(policy, state, k) {
+            return false;
+        }
+        k += 1;
+    }
+    true
+}
+
+// One operation word: 13, 14, 4, 3, 5 or 6, 7, 8. The answer byte is written only where it is accepted.
+pub fn operate(policy: &[u64; 35], state: &mut [u64; 190], word: u16, answer: &mut u8) -> u8
+    ensures { λ r. ⌜ Operate (Pictures (now (policy .entry))) true (fits (now (policy .entry)) (now (state .entry))) (stepIn (now (policy .entry)) (now (state .entry))) (now (policy .entry)) (now (state .entry)) word r (now (answer .entry)) (now (answer .exit)) (now (state .exit)) ⌝ }
+{
+    if !policy::valid(policy) {
+        return beliefs::BAD_POLICY;
+    }
+    if !valid(policy, state) {
+        return beliefs::BAD_STATE;
+    }
+    let decoded = beliefs::decode(policy::signers(policy), policy::targets(policy), word, 0);
+    let Decoded::Word(w) = decoded else {
+        return beliefs::number(decoded);
+    };
+    let op = w.op;
+    let done = serve(policy, state, op);
+    if done.number == beliefs::ACCEPTED {
+        *answer = done.byte;
+    }
+    done.number
+}
