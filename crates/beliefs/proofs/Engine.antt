@@ -42,21 +42,24 @@ module _ (Pictures : List ℕ → List Frame → Type 0) (counts fits : Bool) (a
           let told : decoded (signers p) (targets p) w 0 ≡ Refused n = sym e ∙ q in
           let nz : n ≢ 0 = rw told at (decoded-fair p w 0) in
           record {
-              exact = rw (v, f, told) (record { number = refl; answer = rw (ne-eqb n 0 nz); state = refl });
-              answers = λ _ _ st h. rw told (record { number = refl; answer = rw (ne-eqb n 0 nz); pictures = h }) }
+            exact = rw (v, f, told) (record { number = refl; answer = rw (ne-eqb n 0 nz); state = refl });
+            answers = λ _ _ st h. rw told (record { number = refl; answer = rw (ne-eqb n 0 nz); pictures = h });
+          }
 
       -- 7, 8, or the answer
       pub done-word : (x : Held) → d ≡ Word x → (r : Answer) (left : List ℕ) → Serve Pictures counts p s (x .op) r left (act (x .op))
-        → (byte : ℕ) → byte ≡ cond (eqb (r .number) 0) (r .byte) lent → Operate Pictures counts fits act p s w (r .number) lent byte left
+          → (byte : ℕ) → byte ≡ cond (eqb (r .number) 0) (r .byte) lent → Operate Pictures counts fits act p s w (r .number) lent byte left
       unfolding guarded
       done-word x q r left h byte b =
           let told : decoded (signers p) (targets p) w 0 ≡ Word x = sym e ∙ q in
           let i : inside p (x .op) ≡ true = rw told at (decoded-fair p w 0) in
           record {
-              exact = rw (v, f, told) (record { number = h .gives .number; answer = b ∙ written (h .gives .number) (h .gives .byte); state = h .gives .state });
-              answers = λ _ _ st k. rw told (answered (h .serves v i st k)) }
+            exact = rw (v, f, told) (record { number = h .gives .number; answer = b ∙ written (h .gives .number) (h .gives .byte); state = h .gives .state });
+            answers = λ _ _ st k. rw told (answered (h .serves v i st k));
+          }
         where
           written : {m n y z : ℕ} → m ≡ n → y ≡ z → cond (eqb m 0) y lent ≡ cond (eqb n 0) z lent
           written a c = cc
+
           answered : {o : Outcome} → Serves Pictures counts r left o → Answers Pictures counts (r .number) lent byte left o
           answered k = record { number = k .number; answer = b ∙ written (k .number) (k .byte); pictures = k .pictures }

@@ -106,7 +106,7 @@ module _ (u t : ℕ) (f : Frame) where
         ∙ any-ext (λ b. not (own u b) && inherited p t b) (inherited p t) (λ b. stays (on u b) (on t b) (empty (b .chain)) (all (permitted p t) (b .chain))) (f .beliefs)
 
 -- call: what a start hands over is owned, and what a caller hands down is inherited
-ltb-step : (t n : ℕ) → (eqb n t || ltb t n) ≡ ltb t (suc n)
+pub ltb-step : (t n : ℕ) → (eqb n t || ltb t n) ≡ ltb t (suc n)
 ltb-step t n = go (eqb n t) refl (ltb t n) refl
   where
     go : (e : Bool) → eqb n t ≡ e → (l : Bool) → ltb t n ≡ l → (e || l) ≡ ltb t (suc n)

@@ -29,5 +29,10 @@ ranges p h =
     let s = both (leb 1 (signers p)) (leb (signers p) 32) (b .0) in
     let t = both (leb 1 (targets p)) (leb (targets p) 64) (c .0) in
     record {
-        started = leb-true _ _ (a .0); some-signer = leb-true _ _ (s .0); few-signers = leb-true _ _ (s .1);
-        some-target = leb-true _ _ (t .0); few-targets = leb-true _ _ (t .1); rows = c .1 }
+      started = leb-true _ _ (a .0);
+      some-signer = leb-true _ _ (s .0);
+      few-signers = leb-true _ _ (s .1);
+      some-target = leb-true _ _ (t .0);
+      few-targets = leb-true _ _ (t .1);
+      rows = c .1;
+    }

@@ -25,7 +25,7 @@ module _ (p : List ℕ) where
 
   -- a word whose signer or target is not outside, by its operation number
   by-number : (b0 b1 b2 b3 b4 : Bool) (g t : ℕ) → _≡_ {A = ℕ} (cond b0 (cond (ltb g (signers p)) 0 5) (cond b1 0 (cond (ltb t (targets p)) 0 6))) 0
-    → inside p (cond b0 (Call g) (cond b1 Return (cond b2 (Enable t) (cond b3 (Disable t) (cond b4 (Revert t) (Check t)))))) ≡ true
+      → inside p (cond b0 (Call g) (cond b1 Return (cond b2 (Enable t) (cond b3 (Disable t) (cond b4 (Revert t) (Check t)))))) ≡ true
   by-number true b1 b2 b3 b4 g t e = passes _ 5 (omega arith) e
   by-number false true b2 b3 b4 g t e = refl
   by-number false false true b3 b4 g t e = passes _ 6 (omega arith) e
@@ -42,7 +42,7 @@ module _ (p : List ℕ) where
   decoded-fair w i = go (ltb 5 (wordOperation w)) (strayIn w) (eqb (outsideOf (signers p) (targets p) w) 0) refl
     where
       go : (a b c : Bool) → eqb (outsideOf (signers p) (targets p) w) 0 ≡ c
-        → Fair p (cond a (Refused 4) (cond b (Refused 3) (cond c (Word (record { op = operationOf w; index = i })) (Refused (outsideOf (signers p) (targets p) w)))))
+          → Fair p (cond a (Refused 4) (cond b (Refused 3) (cond c (Word (record { op = operationOf w; index = i })) (Refused (outsideOf (signers p) (targets p) w)))))
       go true b c q = omega arith
       go false true c q = omega arith
       go false false true q = not-outside w (eqb-true _ 0 q)

@@ -36,21 +36,24 @@ module _ (p : List ℕ) (u : ℕ) (f : Frame) (r : List Frame) (h : Sound p f r)
   pub enable-sound : u < 64 → Sound p (enable u f) r
   unfolding enable
   enable-sound l = record {
-      owns = λ t. own-enable u t f ∙ ap (λ (x : Bool). eqb u t || x) (h .owns t) ∙ sym (bit-with (f .enabled) u t l);
-      inherits = λ t. inherited-enable u t f p ∙ h .inherits t }
+    owns = λ t. own-enable u t f ∙ ap (λ (x : Bool). eqb u t || x) (h .owns t) ∙ sym (bit-with (f .enabled) u t l);
+    inherits = λ t. inherited-enable u t f p ∙ h .inherits t;
+  }
 
   pub disable-sound : u < 64 → Sound p (disable u f) r
   unfolding disable
   disable-sound l = record {
-      owns = λ t. own-disable u t f ∙ ap (λ (x : Bool). not (eqb u t) && x) (h .owns t) ∙ sym (bit-without (f .enabled) u t);
-      inherits = λ t. inherited-disable u t f p ∙ ap (λ (x : Bool). not (eqb u t) && x) (h .inherits t)
-          ∙ neither (eqb u t) (bit (f .disabled) t) (granted p t r) ∙ ap (λ (x : Bool). not x && granted p t r) (sym (bit-with (f .disabled) u t l)) }
+    owns = λ t. own-disable u t f ∙ ap (λ (x : Bool). not (eqb u t) && x) (h .owns t) ∙ sym (bit-without (f .enabled) u t);
+    inherits = λ t. inherited-disable u t f p ∙ ap (λ (x : Bool). not (eqb u t) && x) (h .inherits t)
+        ∙ neither (eqb u t) (bit (f .disabled) t) (granted p t r) ∙ ap (λ (x : Bool). not x && granted p t r) (sym (bit-with (f .disabled) u t l));
+  }
 
   pub revert-sound : Sound p (revert u f) r
   unfolding revert
   revert-sound = record {
-      owns = λ t. own-revert u t f ∙ ap (λ (x : Bool). not (eqb u t) && x) (h .owns t) ∙ sym (bit-without (f .enabled) u t);
-      inherits = λ t. inherited-revert u t f p ∙ h .inherits t }
+    owns = λ t. own-revert u t f ∙ ap (λ (x : Bool). not (eqb u t) && x) (h .owns t) ∙ sym (bit-without (f .enabled) u t);
+    inherits = λ t. inherited-revert u t f p ∙ h .inherits t;
+  }
 
 -- a new frame has no disabled mark; at the bottom its marks are the start's
 fresh-mark : (t : ℕ) (g : Bool) → g ≡ (not (bit 0 t) && g)
@@ -63,8 +66,10 @@ start-marks p t few false = sym (bit-none t)
 pub call-sound : (p : List ℕ) (s : ℕ) (r : List Frame) → targets p ≤ 64 → Sound p (called p s r) r
 unfolding called granted
 call-sound p s [] few = record {
-    owns = λ t. own-start p t s ∙ start-marks p t few (full p);
-    inherits = λ t. inherited-start p t s ∙ sym (and-false (not (bit 0 t))) }
+  owns = λ t. own-start p t s ∙ start-marks p t few (full p);
+  inherits = λ t. inherited-start p t s ∙ sym (and-false (not (bit 0 t)));
+}
 call-sound p s (f ∷ r) few = record {
-    owns = λ t. own-called p t s f r ∙ sym (bit-none t);
-    inherits = λ t. inherited-called p t s f r ∙ fresh-mark t (granted p t (f ∷ r)) }
+  owns = λ t. own-called p t s f r ∙ sym (bit-none t);
+  inherits = λ t. inherited-called p t s f r ∙ fresh-mark t (granted p t (f ∷ r));
+}

@@ -45,7 +45,7 @@ module _ (s : List ℕ) (k : ℕ) (m : Marked) where
       let l₂ : length s₂ ≡ 190 = length-set s₁ (3 * k + 2) (m .enabled) ∙ l₁ in
       same-frame (put s k m) k m
       (getD-set-other s₂ (3 * k + 3) (3 * k + 1) (m .disabled) 0 (omega arith) ∙ getD-set-other s₁ (3 * k + 2) (3 * k + 1) (m .enabled) 0 (omega arith)
-          ∙ getD-set-same s (3 * k + 1) (m .signer) 0 (omega arith))
+      ∙ getD-set-same s (3 * k + 1) (m .signer) 0 (omega arith))
       (getD-set-other s₂ (3 * k + 3) (3 * k + 2) (m .disabled) 0 (omega arith) ∙ getD-set-same s₁ (3 * k + 2) (m .enabled) 0 (omega arith))
       (getD-set-same s₂ (3 * k + 3) (m .disabled) 0 (omega arith))
 

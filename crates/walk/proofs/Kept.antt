@@ -53,7 +53,7 @@ module _ (p s : List ℕ) (long : length s ≡ 190) (ok : Ranges p) where
   new-frame g (f ∷ r) = rw (ne-eqb (length (f ∷ r)) 0 (omega arith))
 
   call-kept : (g : ℕ) (st : List Frame) → Pictures p s st → length st < 63
-    → Pictures p (set (put s (depth s) (newFrame p g (depth s))) 0 (depth s + 1)) (called p g st ∷ st)
+      → Pictures p (set (put s (depth s) (newFrame p g (depth s))) 0 (depth s + 1)) (called p g st ∷ st)
   call-kept g st h l =
       let k : ℕ = length st in
       let m : Marked = newFrame p g k in
@@ -64,9 +64,11 @@ module _ (p s : List ℕ) (long : length s ≡ 190) (ok : Ranges p) where
       let top′ : frameAt s′ k ≡ marked (called p g st) = set-depth (put s k m) (k + 1) k ∙ put-frame s k m long l ∙ new-frame g st in
       let below′ : framesAt s′ k ≡ map marked st = put-below s long k m (k + 1) k (omega arith) ∙ ap (λ (n : ℕ). framesAt s n) (sym (high p s st h)) ∙ h .same in
       rw (high p s st h) (record {
-          room = l; deep = deep′;
-          same = ap (λ (n : ℕ). framesAt s′ n) d′ ∙ ap₂ (λ (x : Marked) (xs : List Marked). x ∷ xs) top′ below′;
-          coherent = (call-sound p g st (ok .few-targets), h .coherent) })
+        room = l;
+        deep = deep′;
+        same = ap (λ (n : ℕ). framesAt s′ n) d′ ∙ ap₂ (λ (x : Marked) (xs : List Marked). x ∷ xs) top′ below′;
+        coherent = (call-sound p g st (ok .few-targets), h .coherent);
+      })
 
   -- return: zeros in the newest frame's place
   return-kept : (f : Frame) (r : List Frame) → Pictures p s (f ∷ r) → Pictures p (set (put s (depth s - 1) nobody) 0 (depth s - 1)) r
@@ -78,13 +80,15 @@ module _ (p s : List ℕ) (long : length s ≡ 190) (ok : Ranges p) where
       let d : depth s - 1 ≡ k = omega (arith, high p s (f ∷ r) h) in
       let d′ : depth s′ ≡ k = omega arith in
       rw d (record {
-          room = omega arith; deep = deep′;
-          same = ap (λ (n : ℕ). framesAt s′ n) d′ ∙ put-below s long k nobody k k (omega arith) ∙ newest p s f r h .rest;
-          coherent = h .coherent .1 })
+        room = omega arith;
+        deep = deep′;
+        same = ap (λ (n : ℕ). framesAt s′ n) d′ ∙ put-below s long k nobody k k (omega arith) ∙ newest p s f r h .rest;
+        coherent = h .coherent .1;
+      })
 
   -- enable, disable, revert: the newest frame with other marks
   mark-kept : (op : Operation) (f g : Frame) (r : List Frame) → remarked op (marked f) ≡ marked g → Sound p g r → Pictures p s (f ∷ r)
-    → Pictures p (put s (depth s - 1) (remarked op (frameAt s (depth s - 1)))) (g ∷ r)
+      → Pictures p (put s (depth s - 1) (remarked op (frameAt s (depth s - 1)))) (g ∷ r)
   mark-kept op f g r e sound h =
       let k : ℕ = length r in
       let m : Marked = marked g in
@@ -96,10 +100,12 @@ module _ (p s : List ℕ) (long : length s ≡ 190) (ok : Ranges p) where
       let deep′ : getD s′ 0 0 ≡ suc k = put-depth s k m ∙ h .deep in
       let d′ : depth s′ ≡ suc k = omega arith in
       rw (d, m′) (record {
-          room = room; deep = deep′;
-          same = ap (λ (n : ℕ). framesAt s′ n) d′
-              ∙ ap₂ (λ (x : Marked) (xs : List Marked). x ∷ xs) (put-frame s k m long (omega arith)) (framesAt-same s s′ k (λ j l. put-others s k m j l) ∙ newest p s f r h .rest);
-          coherent = (sound, h .coherent .1) })
+        room = room;
+        deep = deep′;
+        same = ap (λ (n : ℕ). framesAt s′ n) d′
+            ∙ ap₂ (λ (x : Marked) (xs : List Marked). x ∷ xs) (put-frame s k m long (omega arith)) (framesAt-same s s′ k (λ j l. put-others s k m j l) ∙ newest p s f r h .rest);
+        coherent = (sound, h .coherent .1);
+      })
 
   -- the walk's verdict and count
   seen : (t : ℕ) (st : List Frame) → Pictures p s st → walk p t (frames s) ≡ record { granted = granted p t st; looked = walk p t (map marked st) .looked }
@@ -121,13 +127,13 @@ module _ (p s : List ℕ) (long : length s ≡ 190) (ok : Ranges p) where
   some a f r o h k = let e : depth s ≡ suc (length r) = high p s (f ∷ r) h in rw (ne-eqb (depth s) 0 (omega arith)) k
 
   marks : (op : Operation) (g : Frame → Frame) → ((f : Frame) → remarked op (marked f) ≡ marked (g f)) → ((f : Frame) (r : List Frame) → Sound p f r → Sound p (g f) r)
-    → (st : List Frame) → Pictures p s st → Mirrors (markIn op s) (byNewest g st)
+      → (st : List Frame) → Pictures p s st → Mirrors (markIn op s) (byNewest g st)
   unfolding markIn
   marks op g e k [] h = none _ h
   marks op g e k (f ∷ r) h = some _ f r (done (g f ∷ r)) h (record { number = refl; byte = refl; pictures = mark-kept op f (g f) r (e f) (k f r (h .coherent .0)) h })
 
   called-in : (g : ℕ) (st : List Frame) (e : Bool) → ltb (length st) 63 ≡ e → Pictures p s st
-    → Mirrors (cond e (doneIn (set (put s (depth s) (newFrame p g (depth s))) 0 (depth s + 1))) (refuseIn 8 s)) (cond e (done (called p g st ∷ st)) (refuse 8 st))
+      → Mirrors (cond e (doneIn (set (put s (depth s) (newFrame p g (depth s))) 0 (depth s + 1))) (refuseIn 8 s)) (cond e (done (called p g st ∷ st)) (refuse 8 st))
   called-in g st true q h = record { number = refl; byte = refl; pictures = call-kept g st h (ltb-true _ _ q) }
   called-in g st false q h = refused 8 st h
 

@@ -2,3 +2,5 @@ pub mod Frames
 pub mod Turn
 pub mod Agree
 pub mod Kept
+pub mod Exists
+pub mod Unique

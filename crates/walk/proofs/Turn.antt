@@ -28,10 +28,10 @@ module _ (p s : List ℕ) (t left looked : ℕ) (total : Seen) (inv : total ≡ 
 
   module _ (more : left ≢ 0) (m : Marked) (newest : m ≡ frameAt s (left - 1)) where
     turn : total ≡ after looked (cond (permits p (m .signer) t)
-      (cond (bit (m .enabled) t) (decides true)
-      (cond (bit (m .disabled) t) (decides false)
-      (goesOn (walk p t (framesAt s (left - 1))))))
-      (decides false))
+        (cond (bit (m .enabled) t) (decides true)
+        (cond (bit (m .disabled) t) (decides false)
+        (goesOn (walk p t (framesAt s (left - 1))))))
+        (decides false))
     unfolding walk
     turn =
         let e : left ≡ suc (left - 1) = omega arith in

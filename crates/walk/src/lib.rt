@@ -8,7 +8,6 @@ ghost use Rattle.beliefs.specs.Stack.{startMarks, walk};
 ghost use Rattle.beliefs.specs.Engine.{Gives, Serve, Operate};
 ghost use Rattle.walk.specs.State.{depth, frameAt, frames, put, remarked, markIn, callIn, returnIn, checkIn, stepIn, inUse, unused, frameFits, fits};
 ghost use Rattle.walk.specs.Coherent.{Pictures};
-
 use beliefs::Answer;
 use beliefs::Decoded;
 use beliefs::Marked;
@@ -29,10 +28,18 @@ pub fn frame_at(state: &[u64; 190], k: u64) -> Marked
 {
     let whole: &[u64] = state;
     if 62 < k {
-        return Marked { signer: 0, enabled: 0, disabled: 0 };
+        return Marked {
+            signer: 0,
+            enabled: 0,
+            disabled: 0,
+        };
     }
     let at = (3 * k) as usize;
-    Marked { signer: whole[at + 1], enabled: whole[at + 2], disabled: whole[at + 3] }
+    Marked {
+        signer: whole[at + 1],
+        enabled: whole[at + 2],
+        disabled: whole[at + 3],
+    }
 }
 
 // Stores a frame above k others, where there is room for one.
@@ -57,19 +64,31 @@ pub fn check(policy: &[u64; 35], state: &[u64; 190], target: u8) -> Seen
     let mut looked: u64 = 0;
     loop {
         if left == 0 {
-            break Seen { granted: false, looked };
+            break Seen {
+                granted: false,
+                looked,
+            };
         }
         left -= 1;
         looked += 1;
         let frame = frame_at(state, left);
         if !policy::permits(policy, frame.signer, target) {
-            break Seen { granted: false, looked };
+            break Seen {
+                granted: false,
+                looked,
+            };
         }
         if bits::has(frame.enabled, target) {
-            break Seen { granted: true, looked };
+            break Seen {
+                granted: true,
+                looked,
+            };
         }
         if bits::has(frame.disabled, target) {
-            break Seen { granted: false, looked };
+            break Seen {
+                granted: false,
+                looked,
+            };
         }
     }
 }
@@ -81,9 +100,21 @@ fn remark(op: Operation, m: Marked) -> Marked
     match op {
         Operation::Call(_) => m,
         Operation::Return => m,
-        Operation::Enable(t) => Marked { signer: m.signer, enabled: bits::with(m.enabled, t), disabled: m.disabled },
-        Operation::Disable(t) => Marked { signer: m.signer, enabled: bits::without(m.enabled, t), disabled: bits::with(m.disabled, t) },
-        Operation::Revert(t) => Marked { signer: m.signer, enabled: bits::without(m.enabled, t), disabled: m.disabled },
+        Operation::Enable(t) => Marked {
+            signer: m.signer,
+            enabled: bits::with(m.enabled, t),
+            disabled: m.disabled,
+        },
+        Operation::Disable(t) => Marked {
+            signer: m.signer,
+            enabled: bits::without(m.enabled, t),
+            disabled: bits::with(m.disabled, t),
+        },
+        Operation::Revert(t) => Marked {
+            signer: m.signer,
+            enabled: bits::without(m.enabled, t),
+            disabled: m.disabled,
+        },
         Operation::Check(_) => m,
     }
 }
@@ -94,11 +125,17 @@ fn mark(state: &mut [u64; 190], op: Operation) -> Answer
 {
     let d = depth(state);
     if d == 0 {
-        return Answer { number: beliefs::NO_FRAME, byte: 0 };
+        return Answer {
+            number: beliefs::NO_FRAME,
+            byte: 0,
+        };
     }
     let frame = remark(op, frame_at(state, d - 1));
     set_frame(state, d - 1, frame);
-    Answer { number: beliefs::ACCEPTED, byte: 0 }
+    Answer {
+        number: beliefs::ACCEPTED,
+        byte: 0,
+    }
 }
 
 // The enabled marks of a new frame above d others: those of the start at the bottom, else none.
@@ -108,7 +145,11 @@ fn first_marks(policy: &[u64; 35], d: u64) -> u64
     if d != 0 {
         return 0;
     }
-    if policy::is_full(policy) { bits::ones(policy::targets(policy)) } else { 0 }
+    if policy::is_full(policy) {
+        bits::ones(policy::targets(policy))
+    } else {
+        0
+    }
 }
 
 // A new newest frame.
@@ -117,12 +158,26 @@ fn call(policy: &[u64; 35], state: &mut [u64; 190], signer: u8) -> Answer
 {
     let d = depth(state);
     if 63 <= d {
-        return Answer { number: beliefs::TOO_DEEP, byte: 0 };
+        return Answer {
+            number: beliefs::TOO_DEEP,
+            byte: 0,
+        };
     }
     let enabled = first_marks(policy, d);
-    set_frame(state, d, Marked { signer: signer as u64, enabled, disabled: 0 });
+    set_frame(
+        state,
+        d,
+        Marked {
+            signer: signer as u64,
+            enabled,
+            disabled: 0,
+        },
+    );
     state[0] = d + 1;
-    Answer { number: beliefs::ACCEPTED, byte: 0 }
+    Answer {
+        number: beliefs::ACCEPTED,
+        byte: 0,
+    }
 }
 
 // The newest frame goes, and leaves zeros.
@@ -131,11 +186,25 @@ fn leave(state: &mut [u64; 190]) -> Answer
 {
     let d = depth(state);
     if d == 0 {
-        return Answer { number: beliefs::NO_FRAME, byte: 0 };
+        return Answer {
+            number: beliefs::NO_FRAME,
+            byte: 0,
+        };
     }
-    set_frame(state, d - 1, Marked { signer: 0, enabled: 0, disabled: 0 });
+    set_frame(
+        state,
+        d - 1,
+        Marked {
+            signer: 0,
+            enabled: 0,
+            disabled: 0,
+        },
+    );
     state[0] = d - 1;
-    Answer { number: beliefs::ACCEPTED, byte: 0 }
+    Answer {
+        number: beliefs::ACCEPTED,
+        byte: 0,
+    }
 }
 
 // A check by the newest frame.
@@ -143,14 +212,23 @@ fn ask(policy: &[u64; 35], state: &[u64; 190], target: u8) -> Answer
     ensures { λ r. ⌜ Gives r (now (state .entry)) (checkIn (now (policy .entry)) target (now (state .entry))) ⌝ }
 {
     if depth(state) == 0 {
-        return Answer { number: beliefs::NO_FRAME, byte: 0 };
+        return Answer {
+            number: beliefs::NO_FRAME,
+            byte: 0,
+        };
     }
     let seen = check(policy, state, target);
     let looked = (seen.looked % 64) as u8;
     if seen.granted {
-        Answer { number: beliefs::ACCEPTED, byte: 64 + looked }
+        Answer {
+            number: beliefs::ACCEPTED,
+            byte: 64 + looked,
+        }
     } else {
-        Answer { number: beliefs::ACCEPTED, byte: 128 + looked }
+        Answer {
+            number: beliefs::ACCEPTED,
+            byte: 128 + looked,
+        }
     }
 }
 

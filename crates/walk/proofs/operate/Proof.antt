@@ -19,7 +19,7 @@ state-fits : (c : tie.Else2) → fits (c .before .before .before .before .before
 state-fits c = sym (c .before .valid2 .ensures) ∙ not-false _ (c .if2 .left)
 
 word-decoded : (c : tie.After-decode) → c .decode .result
-  ≡ decoded (signers (c .before .before .before .before .before .before .before .before .args .policy .now)) (targets (c .before .before .before .before .before .before .before .before .args .policy .now)) (c .before .before .before .before .before .before .before .before .args .word) 0
+    ≡ decoded (signers (c .before .before .before .before .before .before .before .before .args .policy .now)) (targets (c .before .before .before .before .before .before .before .before .args .policy .now)) (c .before .before .before .before .before .before .before .before .args .word) 0
 word-decoded c = c .decode .ensures ∙ ap₂ (λ (s n : ℕ). decoded s n (c .before .before .before .before .before .before .before .before .args .word) 0) (c .before .before .signers .ensures) (c .before .targets .ensures)
 
 valid-requires : tie.Need-valid-requires
