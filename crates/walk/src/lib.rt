@@ -93,6 +93,17 @@ pub fn check(policy: &[u64; 35], state: &[u64; 190], target: u8) -> Seen
     }
 }
 
+// A frame with other marks.
+fn with_marks(m: Marked, enabled: u64, disabled: u64) -> Marked
+    ensures { λ r. ⌜ r ≡ record { signer = m .signer; enabled = enabled; disabled = disabled } ⌝ }
+{
+    Marked {
+        signer: m.signer,
+        enabled,
+        disabled,
+    }
+}
+
 // A frame after enable, disable or revert.
 fn remark(op: Operation, m: Marked) -> Marked
     ensures { λ r. ⌜ r ≡ remarked op m ⌝ }
@@ -100,21 +111,13 @@ fn remark(op: Operation, m: Marked) -> Marked
     match op {
         Operation::Call(_) => m,
         Operation::Return => m,
-        Operation::Enable(t) => Marked {
-            signer: m.signer,
-            enabled: bits::with(m.enabled, t),
-            disabled: m.disabled,
-        },
-        Operation::Disable(t) => Marked {
-            signer: m.signer,
-            enabled: bits::without(m.enabled, t),
-            disabled: bits::with(m.disabled, t),
-        },
-        Operation::Revert(t) => Marked {
-            signer: m.signer,
-            enabled: bits::without(m.enabled, t),
-            disabled: m.disabled,
-        },
+        Operation::Enable(t) => with_marks(m, bits::with(m.enabled, t), m.disabled),
+        Operation::Disable(t) => with_marks(
+            m,
+            bits::without(m.enabled, t),
+            bits::with(m.disabled, t),
+        ),
+        Operation::Revert(t) => with_marks(m, bits::without(m.enabled, t), m.disabled),
         Operation::Check(_) => m,
     }
 }
@@ -164,15 +167,12 @@ fn call(policy: &[u64; 35], state: &mut [u64; 190], signer: u8) -> Answer
         };
     }
     let enabled = first_marks(policy, d);
-    set_frame(
-        state,
-        d,
-        Marked {
-            signer: signer as u64,
-            enabled,
-            disabled: 0,
-        },
-    );
+    let frame = Marked {
+        signer: signer as u64,
+        enabled,
+        disabled: 0,
+    };
+    set_frame(state, d, frame);
     state[0] = d + 1;
     Answer {
         number: beliefs::ACCEPTED,
@@ -191,15 +191,12 @@ fn leave(state: &mut [u64; 190]) -> Answer
             byte: 0,
         };
     }
-    set_frame(
-        state,
-        d - 1,
-        Marked {
-            signer: 0,
-            enabled: 0,
-            disabled: 0,
-        },
-    );
+    let zeros = Marked {
+        signer: 0,
+        enabled: 0,
+        disabled: 0,
+    };
+    set_frame(state, d - 1, zeros);
     state[0] = d - 1;
     Answer {
         number: beliefs::ACCEPTED,
