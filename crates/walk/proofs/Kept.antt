@@ -5,7 +5,7 @@ use mathlib.Core.List.{List, [], _∷_, map}
 use Prim.Native.Nat.{ℕ, zero, suc, _+_, _-_, _*_, _≤_, _<_, min}
 use native.Mathlib.Omega.{arith}
 use lib.Dec.{eqb, ltb}
-use lib.ListN.{getD, set, length}
+use lib.ListN.{getD, set, length, replicate}
 use lib.Seq.{getD-set-same}
 use borrow.Author.Tests.{eq-eqb, ne-eqb, ltb-true, ltb-false, lt-ltb, le-ltb}
 use Rattle.beliefs.specs.declared.Answer.{Answer}
@@ -22,6 +22,10 @@ use Rattle.walk.specs.State.{depth, frameAt, framesAt, frames, put, rema
 use Rattle.walk.specs.Coherent.{Sound, Coherent, Pictures}
 use Rattle.walk.proofs.Frames.{length-put, put-frame, put-others, put-depth, set-depth, framesAt-same}
 use Rattle.walk.proofs.Agree.{agree, enable-sound, disable-sound, revert-sound, call-sound}
+
+-- a fresh state, all zeros, pictures the stack with no frame
+pub fresh : (p : List ℕ) → Pictures p (replicate 190 0) []
+fresh p = record { room = omega arith; deep = refl; same = refl; coherent = tt }
 
 -- the depth of a state that pictures a stack
 pub high : (p s : List ℕ) (st : List Frame) → Pictures p s st → depth s ≡ length st

@@ -1,0 +1,56 @@
+-- A run over a lent state, for every engine that keeps the promise of one operation: the state pictures the stack that is reached. Assumes nothing.
+use mathlib.Core.Path.{_≡_, refl, sym, ap, _∙_}
+use mathlib.Core.Logic.{_≢_}
+use mathlib.Core.Bool.{Bool, true}
+use mathlib.Core.List.{List, []}
+use Prim.Native.Nat.{ℕ, _+_, _*_, _≤_, _<_}
+use lib.ListN.{length, getD, set}
+use Rattle.beliefs.specs.declared.Answer.{Answer}
+use Rattle.beliefs.specs.declared.Word.{Word as Held}
+use Rattle.beliefs.specs.declared.Decoded.{Decoded}
+use Rattle.beliefs.specs.declared.Decoded.the-variants.{Word, Refused}
+use Rattle.beliefs.specs.Policy.{signers, targets, valid}
+use Rattle.beliefs.specs.Stack.{Frame}
+use Rattle.beliefs.specs.Words.{decoded, numberOf}
+use Rattle.beliefs.specs.Trace.{answerByte, step, served}
+use Rattle.beliefs.specs.Engine.{inside, Moved, Serves, Serve}
+use Rattle.beliefs.proofs.Words.{Fair, decoded-fair}
+use Rattle.runner.specs.Progress.{decodedAt, Answered, Stopped}
+use Rattle.runner.proofs.Progress.{none-yet, finished, refused, one-more}
+
+-- a decoded word is fair
+pub fair : (p trace : List ℕ) (i : ℕ) (d e : Decoded) → d ≡ decodedAt p trace i → d ≡ e → Fair p e
+fair p trace i d e q r = rw (sym q ∙ r) at (decoded-fair p (256 * getD trace (2 * i) 0 + getD trace (2 * i + 1) 0) i)
+
+module _ (Pictures : List ℕ → List Frame → Type 0) (counts : Bool) (p trace lent : List ℕ) where
+  pub record Going (i : ℕ) (state answers : List ℕ) : Type 0 where
+    pub stack : List Frame
+    pub pictures : Pictures state stack
+    pub answered : Answered counts p trace lent [] 0 i stack answers
+
+  pub start : (state : List ℕ) → Pictures state [] → Going 0 state lent
+  start state h = record { stack = []; pictures = h; answered = none-yet counts p trace lent [] 0 }
+
+  module _ (i : ℕ) (state answers : List ℕ) (g : Going i state answers) where
+    pub over : length trace ≤ 2 * i → Stopped counts p trace lent [] 0 i 0 answers
+    over h = finished counts p trace lent [] 0 i (g .stack) answers (g .answered) h
+
+    module _ (more : 2 * i + 1 < length trace) (d : Decoded) (e : d ≡ decodedAt p trace i) where
+      pub bad-word : (n m : ℕ) → n ≡ numberOf d → d ≡ Refused m → Stopped counts p trace lent [] 0 i n answers
+      bad-word n m q r =
+          let same : n ≡ m = q ∙ ap numberOf r in
+          rw same (refused counts p trace lent [] 0 i (g .stack) answers (g .answered) more d e m (rw r) (fair p trace i d (Refused m) e r))
+
+      module _ (v : valid p ≡ true) (x : Held) (r : d ≡ Word x) (a : Answer) (left : List ℕ) (m : Moved) (s : Serve Pictures counts p state (x .op) a left m) where
+        serves : Serves Pictures counts a left (served p d (g .stack))
+        serves = rw r (s .serves v (fair p trace i d (Word x) e r) (g .stack) (g .pictures))
+
+        pub bad-op : a .number ≢ 0 → Stopped counts p trace lent [] 0 i (a .number) answers
+        bad-op nz = refused counts p trace lent [] 0 i (g .stack) answers (g .answered) more d e (a .number) (serves .number) nz
+
+        pub onward : a .number ≡ 0 → Going (i + 1) left (set answers i (a .byte))
+        onward z = record {
+          stack = served p d (g .stack) .stack;
+          pictures = serves .pictures;
+          answered = one-more counts p trace lent [] 0 i (g .stack) answers (g .answered) more d e (a .byte) (sym (serves .number) ∙ z) (serves .byte);
+        }
