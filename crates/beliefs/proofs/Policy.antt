@@ -8,9 +8,9 @@ use borrow.Author.Tests.{leb-true}
 use Rattle.beliefs.specs.Lists.{each}
 use Rattle.beliefs.specs.Policy.{start, signers, targets, within, rowFits, valid}
 
-pub both : (a b : Bool) → (a && b) ≡ true → (a ≡ true) × (b ≡ true)
-both true b h = (refl, h)
-both false b h = (h, cc)
+pub both : (a : Bool) {b : Bool} → (a && b) ≡ true → (a ≡ true) × (b ≡ true)
+both true h = (refl, h)
+both false h = (h, cc)
 
 pub record Ranges (p : List ℕ) : Type 0 where
   pub started : start p ≤ 1
@@ -23,11 +23,11 @@ pub record Ranges (p : List ℕ) : Type 0 where
 pub ranges : (p : List ℕ) → valid p ≡ true → Ranges p
 unfolding valid
 ranges p h =
-    let a = both (leb (start p) 1) (within (signers p) 32 && (within (targets p) 64 && each (rowFits p) 32)) h in
-    let b = both (within (signers p) 32) (within (targets p) 64 && each (rowFits p) 32) (a .1) in
-    let c = both (within (targets p) 64) (each (rowFits p) 32) (b .1) in
-    let s = both (leb 1 (signers p)) (leb (signers p) 32) (b .0) in
-    let t = both (leb 1 (targets p)) (leb (targets p) 64) (c .0) in
+    let a = both (leb (start p) 1) h in
+    let b = both (within (signers p) 32) (a .1) in
+    let c = both (within (targets p) 64) (b .1) in
+    let s = both (leb 1 (signers p)) (b .0) in
+    let t = both (leb 1 (targets p)) (c .0) in
     record {
       started = leb-true _ _ (a .0);
       some-signer = leb-true _ _ (s .0);

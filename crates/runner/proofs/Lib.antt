@@ -1,2 +1,3 @@
 pub mod Progress
 pub mod Going
+pub mod Nested

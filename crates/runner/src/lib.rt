@@ -7,8 +7,11 @@ ghost use lib.ListN.{length};
 ghost use Rattle.beliefs.specs.Account.{Reports};
 ghost use Rattle.beliefs.specs.Trace.{run};
 ghost use Rattle.runner.specs.Progress.{barred, decodedAt, Stopped};
+ghost use Rattle.runner.specs.Nested.{Leaves};
 use beliefs::Decoded;
 use beliefs::Report;
+use passed::Next;
+use passed::Passed;
 
 // What refuses a run before its first word: 13, 1, 9, or 0 for nothing.
 fn barred_by(policy: &[u64; 35], len: usize, room: usize) -> u8
@@ -86,4 +89,92 @@ pub fn walk_run(policy: &[u64; 35], trace: &[u8], answers: &mut [u8]) -> Report
         };
     }
     walk_words(policy, trace, answers)
+}
+
+// Where a frame's run was left: past its return, at the trace's end, or at a refused word.
+pub struct Left {
+    pub at: usize,
+    pub number: u8,
+    pub back: bool,
+}
+
+// The words of one frame from a position on, its callees' among them: it calls itself at a call, and comes back at a return.
+fn frame_run(
+    policy: &[u64; 35],
+    trace: &[u8],
+    answers: &mut [u8],
+    passed: Passed,
+    from: usize,
+) -> Left
+    requires { ⌜ barred (now policy) (length (now trace)) (length (now answers)) ≡ 0 ⌝ }
+    ensures { λ r. ⌜ Leaves (now (policy .entry)) (now (trace .entry)) (now (answers .entry)) passed from (r .at) (r .number) (r .back) (now (answers .exit)) ⌝ }
+{
+    let words = trace.len() / 2;
+    let mut state = passed;
+    let mut i = from;
+    while i < words {
+        let decoded = decode_at(policy, trace, i);
+        let Decoded::Word(w) = decoded else {
+            return Left {
+                at: i,
+                number: beliefs::number(decoded),
+                back: false,
+            };
+        };
+        let op = w.op;
+        let next = passed::serve(policy, state, op);
+        match next {
+            Next::Refused(number) => {
+                return Left {
+                    at: i,
+                    number,
+                    back: false,
+                };
+            }
+            Next::Up => {
+                answers[i] = 0;
+                return Left {
+                    at: i + 1,
+                    number: beliefs::ACCEPTED,
+                    back: true,
+                };
+            }
+            Next::Down(callee) => {
+                answers[i] = 0;
+                let left = frame_run(policy, trace, answers, callee, i + 1);
+                if !left.back {
+                    return left;
+                }
+                i = left.at;
+            }
+            Next::Stay(same, byte) => {
+                answers[i] = byte;
+                state = same;
+                i += 1;
+            }
+        }
+    }
+    Left {
+        at: i,
+        number: beliefs::ACCEPTED,
+        back: false,
+    }
+}
+
+// A run by the passed state: 13, 1, 9, then word by word.
+pub fn passed_run(policy: &[u64; 35], trace: &[u8], answers: &mut [u8]) -> Report
+    ensures { λ r. ⌜ Reports r (now (answers .entry)) (now (answers .exit)) (run false (now (policy .entry)) (now (trace .entry)) (length (now (answers .entry)))) ⌝ }
+{
+    let refused = barred_by(policy, trace.len(), answers.len());
+    if refused != beliefs::ACCEPTED {
+        return Report {
+            number: refused,
+            figure: 0,
+        };
+    }
+    let left = frame_run(policy, trace, answers, Passed::fresh(), 0);
+    Report {
+        number: left.number,
+        figure: left.at as u64,
+    }
 }

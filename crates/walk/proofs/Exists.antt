@@ -138,14 +138,14 @@ stack-pictured p s (suc k) low =
 marks-low : (p s : List ℕ) → targets p ≤ 64 → (j : ℕ) → j < getD s 0 0 → frameFits p s j ≡ true → frameAt s j .enabled < 2 ^ 64
 unfolding frameFits below
 marks-low p s few j l h =
-    let a = both (ltb (frameAt s j .signer) (signers p)) (ltb (frameAt s j .enabled) (2 ^ targets p) && ltb (frameAt s j .disabled) (2 ^ targets p)) (rw (lt-ltb _ _ l) at h) in
-    let b = both (ltb (frameAt s j .enabled) (2 ^ targets p)) (ltb (frameAt s j .disabled) (2 ^ targets p)) (a .1) in
+    let a = both (ltb (frameAt s j .signer) (signers p)) (rw (lt-ltb _ _ l) at h) in
+    let b = both (ltb (frameAt s j .enabled) (2 ^ targets p)) (a .1) in
     lt-of-lt-of-le (ltb-true _ _ (b .0)) (pow-mono few)
 
 pub pictured : (p s : List ℕ) → valid p ≡ true → fits p s ≡ true → (st : List Frame) × Pictures p s st
 unfolding fits
 pictured p s v h =
-    let a = both (leb (getD s 0 0) 63) (each (frameFits p s) 63) h in
+    let a = both (leb (getD s 0 0) 63) h in
     let room : getD s 0 0 ≤ 63 = leb-true _ _ (a .0) in
     let d : depth s ≡ getD s 0 0 = omega arith in
     let low : (j : ℕ) → j < getD s 0 0 → frameAt s j .enabled < 2 ^ 64 = λ j l. marks-low p s (ranges p v .few-targets) j l (each-at (frameFits p s) 63 (a .1) j (omega arith)) in

@@ -1,0 +1,170 @@
+-- The passed state answers what the belief sets say: `own` are the beliefs with the empty chain, and `callers` those whose chain is
+-- permitted throughout, which is what the caller would have been granted. Assumes nothing.
+use mathlib.Core.Path.{_≡_, refl, sym, ap, ap₂, _∙_}
+use mathlib.Core.Bool.{Bool, true, false, cond, _&&_, _||_}
+use mathlib.Core.List.{List, [], _∷_}
+use Prim.Native.Nat.{ℕ, suc, _+_, _*_, _≤_, _<_}
+use native.Mathlib.Numerals.{add-one}
+use native.Mathlib.Omega.{arith}
+use lib.Dec.{eqb, ltb}
+use lib.ListN.{length}
+use borrow.Author.Tests.{eq-eqb, ne-eqb, ltb-true}
+use Rattle.bits.specs.Bit.{bit, lowest}
+use Rattle.bits.proofs.Laws.{bit-with, bit-without, bit-and, bit-or, bit-ones, bit-none, lowest-low}
+use Rattle.beliefs.specs.declared.Operation.{Operation}
+use Rattle.beliefs.specs.declared.Operation.the-variants.{Call, Return, Enable, Disable, Revert, Check}
+use Rattle.beliefs.specs.Numbers.{noFrame, tooDeep}
+use Rattle.beliefs.specs.Policy.{targets, row, permits, valid}
+use Rattle.beliefs.specs.Stack.{Frame, full, startMarks, called, enable, disable, revert, granted}
+use Rattle.beliefs.specs.Trace.{refuse, done, step}
+use Rattle.beliefs.specs.Engine.{inside}
+use Rattle.beliefs.proofs.Granted.{granted-split, own-enable, own-disable, own-revert, inherited-enable, inherited-disable, inherited-revert, own-start, inherited-start, own-called, inherited-called}
+use Rattle.passed.specs.declared.Passed.{Passed}
+use Rattle.passed.specs.declared.Next.{Next}
+use Rattle.passed.specs.declared.Next.the-variants.{Down}
+use Rattle.passed.specs.State.{fresh, grantedOf, callOf, enableOf, disableOf, revertOf, checkOf, answerOf, barredOf, unless, ledTo, nextOf, passedFits, outsideOf, operateOf}
+use Rattle.passed.specs.Picture.{Knows, PassedOf, Stays, Refuses, Goes, Passes, Operates}
+use Rattle.beliefs.proofs.Policy.{Ranges, ranges}
+
+-- a bit of what goes down is the verdict of a check
+pub granted-bit : (p : List ℕ) (s : Passed) (t : ℕ) → bit (grantedOf p s) t ≡ checkOf p s t
+unfolding checkOf permits
+granted-bit p s t = bit-and (row p (s .signer)) _ t ∙ ap (λ (x : Bool). bit (row p (s .signer)) t && x) (bit-or (s .own) (s .callers) t)
+
+-- no frame, and under a full start a bottom frame
+pub fresh-pictures : (p : List ℕ) → PassedOf p fresh []
+fresh-pictures p = record { few = omega arith; deep = refl; says = refl }
+
+start-bit : (p : List ℕ) (t : ℕ) → targets p ≤ 64 → bit (startMarks p) t ≡ (full p && ltb t (targets p))
+start-bit p t few = go (full p)
+  where
+    go : (e : Bool) → bit (cond e (lowest (targets p)) 0) t ≡ (e && ltb t (targets p))
+    go true = ap (λ (w : ℕ). bit w t) (lowest-low (targets p) few) ∙ bit-ones (targets p) t
+    go false = bit-none t
+
+-- what the operations on a target do to what a frame knows
+module _ (p : List ℕ) (s : Passed) (f : Frame) (k : Knows p s f) (t : ℕ) where
+  check-knows : (r : List Frame) → checkOf p s t ≡ granted p t (f ∷ r)
+  unfolding checkOf
+  check-knows r =
+      ap₂ (λ (x : ℕ) (y : Bool). permits p x t && y) (k .signer) (ap₂ (λ (x y : Bool). x || y) (k .owns t) (k .inherits t))
+      ∙ sym (granted-split p t f r)
+
+  enable-knows : t < 64 → Knows p (enableOf s t) (enable t f)
+  unfolding enable
+  enable-knows low = record {
+    signer = k .signer;
+    owns = λ u. bit-with (s .own) t u low ∙ ap (λ (x : Bool). eqb t u || x) (k .owns u) ∙ sym (own-enable t u f);
+    inherits = λ u. k .inherits u ∙ sym (inherited-enable t u f p);
+  }
+
+  disable-knows : Knows p (disableOf s t) (disable t f)
+  unfolding disable
+  disable-knows = record {
+    signer = k .signer;
+    owns = λ u. rw (bit-without (s .own) t u, k .owns u) (sym (own-disable t u f));
+    inherits = λ u. rw (bit-without (s .callers) t u, k .inherits u) (sym (inherited-disable t u f p));
+  }
+
+  revert-knows : Knows p (revertOf s t) (revert t f)
+  unfolding revert
+  revert-knows = record {
+    signer = k .signer;
+    owns = λ u. rw (bit-without (s .own) t u, k .owns u) (sym (own-revert t u f));
+    inherits = λ u. k .inherits u ∙ sym (inherited-revert t u f p);
+  }
+
+-- a callee's state pictures the stack with the callee on it
+call-pictures : (p : List ℕ) (s : Passed) (g : ℕ) (st : List Frame) → targets p ≤ 64 → ltb (s .depth) 63 ≡ true
+    → PassedOf p s st → PassedOf p (callOf p s g) (called p g st ∷ st)
+unfolding callOf called
+call-pictures p s g [] low q h = rw (q, eq-eqb (s .depth) 0 (h .deep)) (record {
+  few = omega arith;
+  deep = refl;
+  says = record {
+    signer = refl;
+    owns = λ t. start-bit p t low ∙ sym (own-start p t g);
+    inherits = λ t. bit-none t ∙ sym (inherited-start p t g);
+  };
+})
+call-pictures p s g (f ∷ r) low q h = let d : s .depth ≡ suc (length r) = h .deep in
+    rw (q, ne-eqb (s .depth) 0 (omega arith)) (record {
+      few = omega (arith, ltb-true (s .depth) 63 q);
+      deep = add-one (s .depth) ∙ ap suc d;
+      says = record {
+        signer = refl;
+        owns = λ t. bit-none t ∙ sym (own-called p t g f r);
+        inherits = λ t. granted-bit p s t ∙ check-knows p s f (h .says) t r ∙ sym (inherited-called p t g f r);
+      };
+    })
+
+no-frame : Refuses (refuse noFrame []) noFrame
+no-frame = record { number = refl; refused = omega arith }
+
+-- an operation by the newest frame: none without a frame, else what the frame then knows
+module _ (p : List ℕ) (s : Passed) where
+  module _ {f : Frame} {r : List Frame} (h : PassedOf p s (f ∷ r)) where
+    framed-here : eqb (s .depth) 0 ≡ false
+    framed-here = let d : s .depth ≡ suc (length r) = h .deep in ne-eqb (s .depth) 0 (omega arith)
+
+    stays : (s′ : Passed) (g : Frame) → s′ .depth ≡ s .depth → Knows p s′ g → Stays p (f ∷ r) (done (g ∷ r)) s′ 0
+    stays s′ g same k = record { number = refl; byte = refl; pictures = record { few = h .few; deep = same ∙ h .deep; says = k }; level = refl; under = refl }
+
+  unframed : PassedOf p s [] → eqb (s .depth) 0 ≡ true
+  unframed h = eq-eqb (s .depth) 0 (h .deep)
+
+  answer-byte : (v : Bool) → answerOf v ≡ cond v 1 2 * 64 + 0
+  answer-byte true = refl
+  answer-byte false = refl
+
+  call-goes : (g : ℕ) (st : List Frame) → targets p ≤ 64 → PassedOf p s st → Goes p st (step p (Call g) st) (nextOf p s (Call g))
+  unfolding step nextOf barredOf ledTo
+  call-goes g st low h = rw (← h .deep) (go (ltb (s .depth) 63) refl)
+    where
+      go : (b : Bool) → ltb (s .depth) 63 ≡ b
+          → Goes p st (cond b (done (called p g st ∷ st)) (refuse tooDeep st)) (unless (cond b 0 tooDeep) (Down (callOf p s g)))
+      go true q = record { number = refl; byte = refl; pictures = call-pictures p s g st low q h; under = refl }
+      go false q = record { number = refl; refused = omega arith }
+
+  serves : (op : Operation) → valid p ≡ true → inside p op ≡ true → (st : List Frame)
+      → PassedOf p s st → Goes p st (step p op st) (nextOf p s op)
+  unfolding step nextOf barredOf ledTo
+  serves (Call g) v i st h = call-goes g st (ranges p v .few-targets) h
+  serves Return v i [] h = rw (unframed h) no-frame
+  serves Return v i (f ∷ r) h = rw (framed-here h) (record { number = refl; byte = refl; framed = omega arith; stack = refl })
+  serves (Enable t) v i [] h = rw (unframed h) no-frame
+  serves (Enable t) v i (f ∷ r) h = rw (framed-here h) (stays h _ _ refl (enable-knows p s f (h .says) t (omega (arith, ltb-true t (targets p) i, ranges p v .few-targets))))
+  serves (Disable t) v i [] h = rw (unframed h) no-frame
+  serves (Disable t) v i (f ∷ r) h = rw (framed-here h) (stays h _ _ refl (disable-knows p s f (h .says) t))
+  serves (Revert t) v i [] h = rw (unframed h) no-frame
+  serves (Revert t) v i (f ∷ r) h = rw (framed-here h) (stays h _ _ refl (revert-knows p s f (h .says) t))
+  serves (Check t) v i [] h = rw (unframed h) no-frame
+  serves (Check t) v i (f ∷ r) h = rw (framed-here h) (record {
+    number = refl;
+    byte = ap answerOf (check-knows p s f (h .says) t r) ∙ answer-byte (granted p t (f ∷ r));
+    pictures = h;
+    level = refl;
+    under = refl;
+  })
+
+-- the promise is met by its exact part
+pub passes : (p : List ℕ) (s : Passed) (op : Operation) (r : Next) → r ≡ nextOf p s op → Passes p s op r
+passes p s op r e = record { exact = e; serves = λ v i st h. rw e (serves p s op v i st h) }
+
+-- the guards let through what document 01's order lets through
+inside-none : (p : List ℕ) (op : Operation) → inside p op ≡ true → outsideOf p op ≡ 0
+unfolding outsideOf
+inside-none p (Call g) i = rw i
+inside-none p Return i = refl
+inside-none p (Enable t) i = rw i
+inside-none p (Disable t) i = rw i
+inside-none p (Revert t) i = rw i
+inside-none p (Check t) i = rw i
+
+through : (p : List ℕ) (s : Passed) (op : Operation)
+    → valid p ≡ true → passedFits p s ≡ true → inside p op ≡ true → operateOf p s op ≡ nextOf p s op
+unfolding operateOf
+through p s op v f i = rw (v, f, inside-none p op i)
+
+pub operates : (p : List ℕ) (s : Passed) (op : Operation) (r : Next) → r ≡ operateOf p s op → Operates p s op r
+operates p s op r e = record { exact = e; serves = λ v f i st h. rw (e, through p s op v f i) (serves p s op v i st h) }

@@ -1,0 +1,22 @@
+-- Under a full start the N lowest bits, else none.
+use borrow.Author.Needs.{needs}
+use Rattle.passed.proofs.start.Statement.{statement}
+use Rattle.passed.proofs.start.Tie as tie
+
+is-full-requires : tie.Need-is-full-requires
+is-full-requires c κs = search needs
+
+targets-requires : tie.Need-targets-requires
+targets-requires c κs = search needs
+
+ones-requires : tie.Need-ones-requires
+ones-requires c κs = search needs
+
+returns : tie.Need-returns
+returns c = rw (← c .before .before .before .is-full .ensures, c .before .before .if1 .taken, ← c .before .targets .ensures) (c .ones .ensures)
+
+returns-2 : tie.Need-returns-2
+returns-2 c = rw (← c .before .is-full .ensures, c .if1 .left)
+
+pub start-spec : {M : Type 1} → statement M
+start-spec = tie.close (tie.spec is-full-requires targets-requires ones-requires returns returns-2)

@@ -1,0 +1,3 @@
+-- The passed state: its operations on four words, and what it pictures of the belief sets.
+pub mod State
+pub mod Picture
