@@ -1,13 +1,14 @@
--- Laws of `any`, `keep` and `each`. Assumes nothing.
+-- Laws of `any`, `all`, `keep` and `each`. Assumes nothing.
 use mathlib.Core.Path.{_≡_, refl, sym, ap, ap₂, _∙_}
-use mathlib.Core.Bool.{Bool, true, false, cond, not, _&&_, _||_, and-false}
+use mathlib.Core.Bool.{Bool, true, false, cond, _&&_, _||_, and-false, and-true, and-assoc}
 use mathlib.Core.List.{List, [], _∷_, map}
 use mathlib.Core.Logic.{_≢_}
-use Prim.Native.Nat.{ℕ, zero, suc, _+_, _<_, _≤_}
+use Prim.Native.Nat.{ℕ, zero, suc, _+_, _<_}
 use native.Mathlib.Numerals.{add-one}
 use native.Mathlib.Omega.{arith}
 use lib.Dec.{eqb}
 use borrow.Author.Tests.{eqb-true, eqb-false}
+use lib.ListN.{length, getD}
 use Rattle.beliefs.specs.Lists.{any, all, keep, each}
 
 module _ {A : Type 0} where
@@ -62,3 +63,26 @@ module _ (f : ℕ → Bool) where
       go : (b : Bool) → f k ≡ b → f k ≡ true
       go true q = q
       go false q = cc (h, each-false n k l q)
+
+-- what holds at each number below n
+pub each-of : (f : ℕ → Bool) (n : ℕ) → ((k : ℕ) → k < n → f k ≡ true) → each f n ≡ true
+unfolding each
+each-of f zero h = refl
+each-of f (suc n) h = rw (each-of f n (λ k l. h k (omega arith)), h n (omega arith))
+
+each-first : (f : ℕ → Bool) (n : ℕ) → each f (suc n) ≡ (f 0 && each (λ k. f (suc k)) n)
+unfolding each
+each-first f zero = sym (and-true (f 0))
+each-first f (suc n) = ap (λ (b : Bool). b && f (suc n)) (each-first f n) ∙ and-assoc (f 0) (each (λ k. f (suc k)) n) (f (suc n))
+
+-- every element of a list is the element at every index
+pub all-each : (f : ℕ → Bool) (l : List ℕ) → all f l ≡ each (λ k. f (getD l k 0)) (length l)
+unfolding each
+all-each f [] = refl
+all-each f (a ∷ l) = ap (λ (b : Bool). f a && b) (all-each f l) ∙ sym (each-first (λ k. f (getD (a ∷ l) k 0)) (length l))
+
+pub all-at : (f : ℕ → Bool) (l : List ℕ) → all f l ≡ true → (k : ℕ) → k < length l → f (getD l k 0) ≡ true
+all-at f l h = each-at (λ k. f (getD l k 0)) (length l) (sym (all-each f l) ∙ h)
+
+pub all-of : (f : ℕ → Bool) (l : List ℕ) → ((k : ℕ) → k < length l → f (getD l k 0) ≡ true) → all f l ≡ true
+all-of f l h = all-each f l ∙ each-of (λ k. f (getD l k 0)) (length l) h

@@ -109,4 +109,4 @@ operate-fits p s op = go (valid p) refl (passedFits p s) refl
     go false q f z = tt
     go true q false z = tt
     go true q true z =
-        unless-fits p (nextOf p s op) (outsideOf p op) (λ o. unless-fits p (ledTo p s op) (barredOf (s .depth) op) (led-fits p s (ranges p q .few-targets) z op o))
+        unless-fits p (nextOf p s op) (outsideOf p op) (λ o. unless-fits p (ledTo p s op) (barredOf (s .depth) op) (led-fits p s (ranges p q .targets-most) z op o))

@@ -129,11 +129,11 @@ module _ (p : List ℕ) (s : Passed) where
   serves : (op : Operation) → valid p ≡ true → inside p op ≡ true → (st : List Frame)
       → PassedOf p s st → Goes p st (step p op st) (nextOf p s op)
   unfolding step nextOf barredOf ledTo
-  serves (Call g) v i st h = call-goes g st (ranges p v .few-targets) h
+  serves (Call g) v i st h = call-goes g st (ranges p v .targets-most) h
   serves Return v i [] h = rw (unframed h) no-frame
   serves Return v i (f ∷ r) h = rw (framed-here h) (record { number = refl; byte = refl; framed = omega arith; stack = refl })
   serves (Enable t) v i [] h = rw (unframed h) no-frame
-  serves (Enable t) v i (f ∷ r) h = rw (framed-here h) (stays h _ _ refl (enable-knows p s f (h .says) t (omega (arith, ltb-true t (targets p) i, ranges p v .few-targets))))
+  serves (Enable t) v i (f ∷ r) h = rw (framed-here h) (stays h _ _ refl (enable-knows p s f (h .says) t (omega (arith, ltb-true t (targets p) i, ranges p v .targets-most))))
   serves (Disable t) v i [] h = rw (unframed h) no-frame
   serves (Disable t) v i (f ∷ r) h = rw (framed-here h) (stays h _ _ refl (disable-knows p s f (h .says) t))
   serves (Revert t) v i [] h = rw (unframed h) no-frame

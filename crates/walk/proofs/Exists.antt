@@ -148,7 +148,7 @@ pictured p s v h =
     let a = both (leb (getD s 0 0) 63) h in
     let room : getD s 0 0 ≤ 63 = leb-true _ _ (a .0) in
     let d : depth s ≡ getD s 0 0 = omega arith in
-    let low : (j : ℕ) → j < getD s 0 0 → frameAt s j .enabled < 2 ^ 64 = λ j l. marks-low p s (ranges p v .few-targets) j l (each-at (frameFits p s) 63 (a .1) j (omega arith)) in
+    let low : (j : ℕ) → j < getD s 0 0 → frameAt s j .enabled < 2 ^ 64 = λ j l. marks-low p s (ranges p v .targets-most) j l (each-at (frameFits p s) 63 (a .1) j (omega arith)) in
     let stack = stack-pictured p s (getD s 0 0) low in (
       stack-of s (getD s 0 0),
       record {

@@ -71,7 +71,7 @@ module _ (p s : List ℕ) (long : length s ≡ 190) (ok : Ranges p) where
         room = l;
         deep = deep′;
         same = ap (λ (n : ℕ). framesAt s′ n) d′ ∙ ap₂ (λ (x : Marked) (xs : List Marked). x ∷ xs) top′ below′;
-        coherent = (call-sound p g st (ok .few-targets), h .coherent);
+        coherent = (call-sound p g st (ok .targets-most), h .coherent);
       })
 
   -- return: zeros in the newest frame's place
@@ -142,7 +142,7 @@ module _ (p s : List ℕ) (long : length s ≡ 190) (ok : Ranges p) where
   called-in g st false q h = refused 8 st h
 
   few : (t : ℕ) → ltb t (targets p) ≡ true → t < 64
-  few t h = omega (arith, ltb-true t (targets p) h, ok .few-targets)
+  few t h = omega (arith, ltb-true t (targets p) h, ok .targets-most)
 
   pub simulate : (op : Operation) → inside p op ≡ true → (st : List Frame) → Pictures p s st → Mirrors (stepIn p s op) (step p op st)
   unfolding step callIn returnIn checkIn enable disable revert

@@ -1,9 +1,8 @@
 -- A row past the 32nd is past the value's end, where the definition finds 0.
 use borrow.Author.Needs.{needs}
 use native.Mathlib.Omega.{arith}
-use mathlib.Core.Path.{_≡_, sym}
-use Prim.Native.Nat.{_+_, _≤_}
-use lib.ListN.{List·getD-eq-default, length}
+use mathlib.Core.Path.{sym}
+use lib.ListN.{List·getD-eq-default}
 use Rattle.policy.proofs.row.Statement.{statement}
 use Rattle.policy.proofs.row.Tie as tie
 

@@ -22,7 +22,13 @@ row-requires-2 c κs = search needs
 
 returns : tie.Need-returns
 unfolding rowFits
-returns c = rw (← c .before .before .before .before .signers .ensures, lt-ltb _ _ (c .before .before .before .if1 .taken), ← c .before .before .row .ensures, ← c .before .targets .ensures) (c .fits2 .ensures)
+returns c =
+    rw (
+      ← c .before .before .before .before .signers .ensures,
+      lt-ltb _ _ (c .before .before .before .if1 .taken),
+      ← c .before .before .row .ensures,
+      ← c .before .targets .ensures,
+    ) (c .fits2 .ensures)
 
 returns-2 : tie.Need-returns-2
 unfolding rowFits

@@ -11,8 +11,6 @@ use Rattle.beliefs.proofs.Lists.{each-none, each-more, each-false}
 use Rattle.policy.proofs.rows_fit.Statement.{statement}
 use Rattle.policy.proofs.rows_fit.Tie as tie
 
--- The rows below s fit, one more at each turn.
-
 abbrev Inv-loop : tie.InvT-loop
 Inv-loop policy s₀ s = (each (rowFits policy) s ≡ true) × (s ≤ 32)
 

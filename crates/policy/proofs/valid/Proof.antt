@@ -1,10 +1,32 @@
 -- The tests come in the definition's order, and each callee says what its part of the definition is.
 use borrow.Author.Needs.{needs}
 use borrow.Author.Tests.{le-leb, lt-leb, not-true, not-false}
-use mathlib.Core.Path.{sym, _∙_}
-use Rattle.beliefs.specs.Policy.{valid}
+use denote.Ref.{now}
+use mathlib.Core.Path.{_≡_}
+use mathlib.Core.Bool.{_&&_}
+use Rattle.beliefs.specs.Lists.{each}
+use Rattle.beliefs.specs.Policy.{targets, within, rowFits, valid}
 use Rattle.policy.proofs.valid.Statement.{statement}
 use Rattle.policy.proofs.valid.Tie as tie
+
+-- what is left of the definition past the start and S, and past N
+past-signers : (c : tie.After-in-range)
+    → let p = now (c .before .before .before .before .args .policy) in
+    valid p ≡ (c .in-range .result && (within (targets p) 64 && each (rowFits p) 32))
+unfolding valid
+past-signers c =
+    rw (le-leb _ _ (c .before .before .if1 .left), ← c .before .signers .ensures, ← c .in-range .ensures)
+
+past-targets : (c : tie.After-in-range2)
+    → let p = now (c .before .before .before .before .before .before .before .args .policy) in
+    valid p ≡ (c .in-range2 .result && each (rowFits p) 32)
+past-targets c =
+    rw (
+      past-signers (c .before .before .before),
+      not-false (c .before .before .before .in-range .result) (c .before .before .if2 .left),
+      ← c .before .targets .ensures,
+      ← c .in-range2 .ensures,
+    )
 
 element-copy-out-if1 : tie.Need-element-copy-out-if1
 element-copy-out-if1 c = search needs
@@ -20,8 +42,7 @@ in-range-requires : tie.Need-in-range-requires
 in-range-requires c κs = search needs
 
 returns-2 : tie.Need-returns-2
-unfolding valid
-returns-2 c = rw (le-leb _ _ (c .before .before .before .if1 .left), ← c .before .before .signers .ensures, ← c .before .in-range .ensures, not-true (c .before .in-range .result) (c .if2 .taken))
+returns-2 c = rw (past-signers (c .before), not-true (c .before .in-range .result) (c .if2 .taken))
 
 targets-requires : tie.Need-targets-requires
 targets-requires c κs = search needs
@@ -30,15 +51,14 @@ in-range-requires-2 : tie.Need-in-range-requires-2
 in-range-requires-2 c κs = search needs
 
 returns-3 : tie.Need-returns-3
-unfolding valid
-returns-3 c = rw (le-leb _ _ (c .before .before .before .before .before .before .if1 .left), ← c .before .before .before .before .before .signers .ensures, ← c .before .before .before .before .in-range .ensures, not-false (c .before .before .before .before .in-range .result) (c .before .before .before .if2 .left), ← c .before .before .targets .ensures, ← c .before .in-range2 .ensures, not-true (c .before .in-range2 .result) (c .if3 .taken))
+returns-3 c = rw (past-targets (c .before), not-true (c .before .in-range2 .result) (c .if3 .taken))
 
 rows-fit-requires : tie.Need-rows-fit-requires
 rows-fit-requires c κs = search needs
 
 returns-4 : tie.Need-returns-4
-unfolding valid
-returns-4 c = rw (le-leb _ _ (c .before .before .before .before .before .before .before .if1 .left), ← c .before .before .before .before .before .before .signers .ensures, ← c .before .before .before .before .before .in-range .ensures, not-false (c .before .before .before .before .before .in-range .result) (c .before .before .before .before .if2 .left), ← c .before .before .before .targets .ensures, ← c .before .before .in-range2 .ensures, not-false (c .before .before .in-range2 .result) (c .before .if3 .left)) (c .rows-fit .ensures)
+returns-4 c =
+    rw (past-targets (c .before .before), not-false (c .before .before .in-range2 .result) (c .before .if3 .left)) (c .rows-fit .ensures)
 
 pub valid-spec : {M : Type 1} → statement M
 valid-spec =

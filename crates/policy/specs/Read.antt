@@ -1,0 +1,17 @@
+-- What reading a policy promises, and what its argument is.
+use mathlib.Core.Path.{_≡_}
+use mathlib.Core.Bool.{cond}
+use mathlib.Core.List.{List}
+use Prim.Native.Nat.{ℕ, _<_}
+use lib.Dec.{eqb}
+use lib.ListN.{getD}
+use Rattle.beliefs.specs.Policy.{readNumber, valueRead}
+
+-- document 01's number for these bytes; the value is what they say where that is 0, and as it was lent where they are refused
+pub record PolicyRead (bytes lent : List ℕ) (r : ℕ) (left : List ℕ) : Type 0 where
+  pub number : r ≡ readNumber bytes
+  pub value : left ≡ cond (eqb (readNumber bytes) 0) (valueRead bytes) lent
+
+-- every element is a byte
+abbrev pub Bytes : List ℕ → Type 0
+Bytes bs = (i : ℕ) → getD bs i 0 < 256

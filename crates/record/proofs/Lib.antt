@@ -1,0 +1,10 @@
+pub mod Below
+pub mod Runs
+pub mod Tried
+pub mod Chains
+pub mod Kept
+pub mod Served
+pub mod Decoding
+pub mod Guarded
+pub mod Exists
+pub mod Unique

@@ -1,0 +1,103 @@
+-- What stands in a list after a run of words was stored, and what it is that no word of a run has a bit from n on. Assumes nothing.
+use mathlib.Core.Path.{_≡_, refl, sym, ap, _∙_}
+use mathlib.Core.Bool.{Bool, true, false, _&&_, and-false}
+use mathlib.Core.List.{List}
+use mathlib.Core.Logic.{_≢_}
+use Prim.Native.Nat.{ℕ, zero, suc, _+_, _-_, _*_, _^_, _≤_, _<_}
+use native.Mathlib.Nat.{le-trans, le-add-right}
+use native.Mathlib.Numerals.{add-one}
+use native.Mathlib.Decide.{decLt}
+use native.Mathlib.Omega.{arith}
+use lib.Dec.{eqb, ltb}
+use lib.Bits.{bitOr, or-lt, or-add-and, and-le-l, and-le-r}
+use lib.Pow.{pow-pos}
+use lib.ListN.{length, getD, set, length-set}
+use lib.Seq.{getD-set-same, getD-set-other}
+use borrow.Author.Tests.{lt-ltb, le-ltb, eq-eqb, ne-eqb, eqb-true, eqb-false}
+use Rattle.bits.specs.Bit.{below}
+use Rattle.beliefs.specs.Lists.{each}
+use Rattle.record.specs.Record.{depth, heldAt, held, filled, startWord, longer, handed, wordsBelow}
+
+module _ (at : ℕ) (w : ℕ → ℕ) (s : List ℕ) where
+  pub filled-none : filled at w 0 s ≡ s
+  unfolding filled
+  filled-none = refl
+
+  pub filled-more : (n v : ℕ) (l : List ℕ) → l ≡ filled at w n s → v ≡ w n → set l (at + n) v ≡ filled at w (n + 1) s
+  unfolding filled
+  filled-more n v l h e = rw (h, e, add-one)
+
+  pub length-filled : (n : ℕ) → length (filled at w n s) ≡ length s
+  unfolding filled
+  length-filled zero = refl
+  length-filled (suc n) = length-set (filled at w n s) (at + n) (w n) ∙ length-filled n
+
+  pub filled-other : (n j : ℕ) → ((k : ℕ) → k < n → j ≢ at + k) → getD (filled at w n s) j 0 ≡ getD s j 0
+  unfolding filled
+  filled-other zero j h = refl
+  filled-other (suc n) j h =
+      getD-set-other (filled at w n s) (at + n) j (w n) 0 (h n (omega arith)) ∙ filled-other n j (λ k l. h k (omega arith))
+
+  pub filled-at : (n k : ℕ) → k < n → at + n ≤ length s → getD (filled at w n s) (at + k) 0 ≡ w k
+  unfolding filled
+  filled-at zero k l h = absurd (omega arith)
+  filled-at (suc n) k l h = go (eqb k n) refl (λ m. filled-at n k m (omega arith))
+    where
+      long : at + n < length (filled at w n s)
+      long = omega (arith, length-filled n)
+      go : (e : Bool) → eqb k n ≡ e → (k < n → getD (filled at w n s) (at + k) 0 ≡ w k) → getD (set (filled at w n s) (at + n) (w n)) (at + k) 0 ≡ w k
+      go true q ih = rw (eqb-true k n q) (getD-set-same (filled at w n s) (at + n) (w n) 0 long)
+      go false q ih =
+          let other : k ≢ n = eqb-false k n q in
+          getD-set-other (filled at w n s) (at + n) (at + k) (w n) 0 (λ e. other (omega arith)) ∙ ih (omega arith)
+
+pub filled-ext : (at : ℕ) (v w : ℕ → ℕ) (s : List ℕ) (n : ℕ) → ((k : ℕ) → k < n → v k ≡ w k) → filled at v n s ≡ filled at w n s
+unfolding filled
+filled-ext at v w s zero h = refl
+filled-ext at v w s (suc n) h = rw (h n (omega arith), filled-ext at v w s n (λ k l. h k (omega arith)))
+
+-- the words above the newest frame's, 65 further on
+pub one-longer : (s : List ℕ) (j : ℕ) → j ≡ depth s - 1 → 0 < depth s
+    → filled (65 * j + 2 + 65) (λ u. longer (getD s (65 * j + 2 + u) 0)) 64 s ≡ filled (65 * depth s + 2) (λ t. longer (held s t)) 64 s
+unfolding heldAt
+one-longer s j e h =
+    let up : 65 * j + 2 + 65 ≡ 65 * depth s + 2 = omega arith in
+    rw (up, e) (filled-ext (65 * depth s + 2) _ _ s 64 (λ k l. rw (lt-ltb k 64 l)))
+
+-- what a call hands over, at depth 0 and deeper
+module _ (p s : List ℕ) where
+  pub handed-first : depth s ≡ 0 → filled 2 (startWord p) 64 s ≡ filled (65 * depth s + 2) (handed p s) 64 s
+  unfolding handed
+  handed-first e =
+      let at : 65 * depth s + 2 ≡ 2 = omega arith in
+      rw at (filled-ext 2 (startWord p) (handed p s) s 64 (λ k l. rw (eq-eqb (depth s) 0 e)))
+
+  pub handed-down : (depth s ≢ 0) → filled (65 * depth s + 2) (λ t. longer (held s t)) 64 s ≡ filled (65 * depth s + 2) (handed p s) 64 s
+  unfolding handed
+  handed-down n = filled-ext (65 * depth s + 2) (λ t. longer (held s t)) (handed p s) s 64 (λ k l. rw (ne-eqb (depth s) 0 n))
+
+-- the bits of two words together
+below-or : (a b n : ℕ) → below (bitOr a b) n ≡ (below a n && below b n)
+unfolding below
+below-or a b n = go (decLt a (2 ^ n)) (decLt b (2 ^ n))
+  where
+    above-a : a ≤ bitOr a b
+    above-a = omega (arith, or-add-and a b, and-le-r a b)
+    above-b : b ≤ bitOr a b
+    above-b = omega (arith, or-add-and a b, and-le-l a b)
+    go : Dec (a < 2 ^ n) → Dec (b < 2 ^ n) → ltb (bitOr a b) (2 ^ n) ≡ (ltb a (2 ^ n) && ltb b (2 ^ n))
+    go (yes h) (yes k) = rw (lt-ltb _ _ (or-lt n a b h k), lt-ltb _ _ h, lt-ltb _ _ k)
+    go (yes h) (no k) = rw (le-ltb (bitOr a b) (2 ^ n) (omega (arith, above-b)), lt-ltb _ _ h, le-ltb b (2 ^ n) (omega arith))
+    go (no h) k = rw (le-ltb (bitOr a b) (2 ^ n) (omega (arith, above-a)), le-ltb a (2 ^ n) (omega arith))
+
+module _ (s : List ℕ) (from n : ℕ) where
+  pub words-none : below 0 n ≡ wordsBelow s from from n
+  unfolding wordsBelow each below
+  words-none = let e : from - from ≡ 0 = omega arith in rw e (lt-ltb 0 (2 ^ n) (pow-pos n))
+
+  pub words-more : (together i : ℕ) → from ≤ i → below together n ≡ wordsBelow s from i n → below (bitOr together (getD s i 0)) n ≡ wordsBelow s from (i + 1) n
+  unfolding wordsBelow each
+  words-more together i l h =
+      let up : i + 1 - from ≡ suc (i - from) = omega arith in
+      let at : from + (i - from) ≡ i = omega arith in
+      rw (up, ← h, at) (below-or together (getD s i 0) n)

@@ -1,0 +1,40 @@
+-- What a check has found where it ends: a frame that is not permitted, a length that is held, or the bottom. Assumes nothing.
+use mathlib.Core.Path.{_≡_, refl, sym, ap, _∙_}
+use mathlib.Core.Bool.{Bool, true, false, _&&_, _||_, and-false}
+use mathlib.Core.List.{List}
+use mathlib.Core.Logic.{_≢_}
+use Prim.Native.Nat.{ℕ, zero, suc, _+_, _-_, _*_, _≤_, _<_, min}
+use native.Mathlib.Numerals.{add-one}
+use native.Mathlib.Decide.{decLt}
+use native.Mathlib.Omega.{arith}
+use lib.Dec.{eqb}
+use lib.ListN.{getD}
+use borrow.Author.Tests.{eqb-true, eqb-false}
+use Rattle.bits.specs.Bit.{bit}
+use Rattle.beliefs.specs.Policy.{permits}
+use Rattle.beliefs.proofs.Lists.{each-more, each-false}
+use Rattle.record.specs.Record.{depth, signerAt, held, newestPermitted, grantedIn}
+use Rattle.record.proofs.Below.{some-false, some-true}
+
+-- the lengths below k were tried, none is held, and the k newest frames are permitted
+module _ (p : List ℕ) (t : ℕ) (s : List ℕ) (k : ℕ) where
+  abbrev permitted : Bool
+  permitted = permits p (signerAt s (depth s - 1 - k)) t
+
+  pub tried-barred : ((i : ℕ) → i < k → bit (held s t) i ≡ false) → permitted ≡ false → grantedIn p t s ≡ false
+  unfolding grantedIn
+  tried-barred none h = some-false (λ i. bit (held s t) i && newestPermitted p t s (suc i)) (depth s) (λ i l. go i (decLt i k))
+    where
+      go : (i : ℕ) → Dec (i < k) → (bit (held s t) i && newestPermitted p t s (suc i)) ≡ false
+      go i (yes m) = rw (none i m)
+      go i (no m) = rw (each-false (λ j. permits p (signerAt s (depth s - 1 - j)) t) (suc i) k (omega arith) h) (and-false (bit (held s t) i))
+
+  pub tried-found : k < depth s → newestPermitted p t s k ≡ true → permitted ≡ true → bit (held s t) k ≡ true → grantedIn p t s ≡ true
+  unfolding grantedIn
+  tried-found l h e b =
+      some-true (λ i. bit (held s t) i && newestPermitted p t s (suc i)) (depth s) k l
+      (rw (b, ← add-one k) (each-more (λ j. permits p (signerAt s (depth s - 1 - j)) t) k h e))
+
+pub tried-none : (p : List ℕ) (t : ℕ) (s : List ℕ) → ((i : ℕ) → i < depth s → bit (held s t) i ≡ false) → grantedIn p t s ≡ false
+unfolding grantedIn
+tried-none p t s none = some-false (λ i. bit (held s t) i && newestPermitted p t s (suc i)) (depth s) (λ i l. rw (none i l))

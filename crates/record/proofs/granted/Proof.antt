@@ -1,0 +1,89 @@
+-- At each turn the k newest frames are permitted, and none of the lengths below k is held.
+use borrow.Author.Needs.{needs}
+use borrow.Author.Tests.{not-true, not-false}
+use borrow.Author.Count.{below-more}
+use mathlib.Core.Path.{_≡_, refl, sym, ap, _∙_}
+use mathlib.Core.Bool.{true, false}
+use Prim.Native.Nat.{ℕ, _-_, _≤_, _<_}
+use native.Mathlib.Omega.{arith}
+use Rattle.bits.specs.Bit.{bit}
+use Rattle.beliefs.proofs.Lists.{each-none, each-more}
+use Rattle.record.specs.Record.{newestPermitted, held, depth}
+use Rattle.record.proofs.Tried.{tried-barred, tried-found, tried-none}
+use Rattle.record.proofs.granted.Statement.{statement}
+use Rattle.record.proofs.granted.Tie as tie
+
+abbrev Inv-loop : tie.InvT-loop
+Inv-loop policy state target d lengths k₀ k = (k ≤ d) × ((newestPermitted policy target state k ≡ true) × ((i : ℕ) → i < k → bit (held state target) i ≡ false))
+
+abbrev μ-loop : tie.MeasureT-loop
+μ-loop policy state target d lengths k₀ k = d - k
+
+depth-requires : tie.Need-depth-requires Inv-loop μ-loop
+depth-requires c κs = search needs
+
+held-requires : tie.Need-held-requires Inv-loop μ-loop
+held-requires c κs = search needs
+
+loop-holds : tie.Need-loop-holds Inv-loop μ-loop
+loop-holds c = (omega arith, (each-none _, λ i l. absurd (omega arith)))
+
+sub-signer : tie.Need-sub-signer Inv-loop μ-loop
+sub-signer c = search needs
+
+sub-signer-2 : tie.Need-sub-signer-2 Inv-loop μ-loop
+sub-signer-2 c = search needs
+
+signer-requires : tie.Need-signer-requires Inv-loop μ-loop
+signer-requires c κs = search needs
+
+permits-requires : tie.Need-permits-requires Inv-loop μ-loop
+permits-requires c κs = search needs
+
+returns : tie.Need-returns Inv-loop μ-loop
+returns c = sym (tried-barred _ _ _ _ (c .before .before .before .before .loop .inv .1 .1) (rw (← c .before .before .before .before .before .before .depth .ensures, ← c .before .before .signer .ensures, ← c .before .permits .ensures) (not-true _ (c .if1 .taken))))
+
+cast-has : tie.Need-cast-has Inv-loop μ-loop
+cast-has c = search needs
+
+has-requires : tie.Need-has-requires Inv-loop μ-loop
+has-requires c κs = search needs
+
+returns-2 : tie.Need-returns-2 Inv-loop μ-loop
+returns-2 c = sym (tried-found _ _ _ _ (rw (← c .before .before .before .before .before .before .before .before .depth .ensures) (c .before .before .before .before .before .loop-test .taken)) (c .before .before .before .before .before .before .loop .inv .1 .0) (rw (← c .before .before .before .before .before .before .before .before .depth .ensures, ← c .before .before .before .before .signer .ensures, ← c .before .before .before .permits .ensures) (not-false _ (c .before .before .if1 .left))) (rw (← c .before .before .before .before .before .before .before .held .ensures, ← c .before .has .ensures) (c .if2 .taken)))
+
+add-k : tie.Need-add-k Inv-loop μ-loop
+add-k c = search needs
+
+loop-less : tie.Need-loop-less Inv-loop μ-loop
+loop-less c = search needs
+
+loop-again : tie.Need-loop-again Inv-loop μ-loop
+loop-again c =
+    (omega arith, (each-more _ _ (c .before .before .before .before .before .before .loop .inv .1 .0) (rw (← c .before .before .before .before .before .before .before .before .depth .ensures, ← c .before .before .before .before .signer .ensures, ← c .before .before .before .permits .ensures) (not-false _ (c .before .before .if1 .left))),
+        below-more _ _ (c .before .before .before .before .before .before .loop .inv .1 .1) (rw (← c .before .before .before .before .before .before .before .held .ensures, ← c .before .has .ensures) (c .if2 .left))))
+
+returns-3 : tie.Need-returns-3 Inv-loop μ-loop
+returns-3 c = sym (tried-none _ _ _ (λ i l. c .before .loop .inv .1 .1 i (omega arith)))
+
+pub granted-spec : {M : Type 1} → statement M
+granted-spec =
+    tie.close
+    (tie.spec
+    Inv-loop
+    μ-loop
+    depth-requires
+    held-requires
+    loop-holds
+    sub-signer
+    sub-signer-2
+    signer-requires
+    permits-requires
+    returns
+    cast-has
+    has-requires
+    returns-2
+    add-k
+    loop-less
+    loop-again
+    returns-3)

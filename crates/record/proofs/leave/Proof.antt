@@ -1,0 +1,52 @@
+-- The frame's words are cleared, and then the depth is one less.
+use borrow.Author.Needs.{needs}
+use borrow.Author.Tests.{eq-eqb, ne-eqb}
+use mathlib.Core.Path.{_≡_, refl, ap₂, _∙_}
+use mathlib.Core.List.{List}
+use Prim.Native.Nat.{ℕ, _-_}
+use native.Mathlib.Omega.{arith}
+use lib.ListN.{set}
+use Rattle.record.specs.Record.{depth, returnIn}
+use Rattle.record.proofs.leave.Statement.{statement}
+use Rattle.record.proofs.leave.Tie as tie
+
+depth-requires : tie.Need-depth-requires
+depth-requires c κs = search needs
+
+refused-requires : tie.Need-refused-requires
+refused-requires c κs = search needs
+
+returns : tie.Need-returns
+unfolding returnIn
+returns c = rw (← c .before .before .depth .ensures, eq-eqb _ _ (c .before .if1 .taken)) (record { number = c .refused .ensures .0; byte = c .refused .ensures .1; state = refl })
+
+clear-requires : tie.Need-clear-requires
+clear-requires c κs = search needs
+
+sub-state : tie.Need-sub-state
+sub-state c = search needs
+
+element-write-state : tie.Need-element-write-state
+element-write-state c = search needs
+
+answered-requires : tie.Need-answered-requires
+answered-requires c κs = search needs
+
+returns-2 : tie.Need-returns-2
+unfolding returnIn
+returns-2 c =
+    rw (ne-eqb (depth (c .before .before .before .before .before .before .args .state .now)) 0 (λ e. c .before .before .before .if1 .left (c .before .before .before .before .depth .ensures ∙ e)))
+    (record { number = c .answered .ensures .0; byte = c .answered .ensures .1; state = ap₂ (λ (l : List ℕ) (d : ℕ). set l 0 (d - 1)) (c .before .clear .ensures) (c .before .before .before .before .depth .ensures) })
+
+pub leave-spec : {M : Type 1} → statement M
+leave-spec =
+    tie.close
+    (tie.spec
+    depth-requires
+    refused-requires
+    returns
+    clear-requires
+    sub-state
+    element-write-state
+    answered-requires
+    returns-2)

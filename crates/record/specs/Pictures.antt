@@ -1,0 +1,61 @@
+-- When a state pictures a stack of the definition, and what an operation word promises over that.
+use mathlib.Core.Path.{_≡_}
+use mathlib.Core.Bool.{Bool, true, false, cond, _&&_}
+use mathlib.Core.List.{List, [], _∷_, map}
+use Prim.Native.Nat.{ℕ, _*_, _≤_, _<_}
+use lib.Dec.{eqb}
+use lib.ListN.{length, getD, take}
+use Rattle.bits.specs.Bit.{bit}
+use Rattle.beliefs.specs.Lists.{any}
+use Rattle.beliefs.specs.Policy.{signers, targets, valid}
+use Rattle.beliefs.specs.Stack.{Principal, Belief, Frame, on}
+use Rattle.beliefs.specs.Words.{decoded}
+use Rattle.beliefs.specs.Trace.{Outcome, answerByte, served}
+use Rattle.beliefs.specs.Engine.{guarded, Operated}
+use Rattle.record.specs.Record.{signerAt, heldAt, recordFits, stepIn}
+
+abbrev pub principals : List Frame → List Principal
+principals st = map (λ (f : Frame). f .principal) st
+
+-- a belief of a frame above r: on a target below N, with a chain that is so many of the frames next below
+pub record Founded (p : List ℕ) (r : List Frame) (b : Belief) : Type 0 where
+  pub target : b .target < targets p
+  pub chain : b .chain ≡ take (length (b .chain)) (principals r)
+
+abbrev pub AllFounded : List ℕ → List Frame → List Belief → Type 0
+AllFounded p r [] = Unit {0}
+AllFounded p r (b ∷ bs) = Founded p r b × AllFounded p r bs
+
+-- a belief on T with a chain of length k
+abbrev pub withLength : ℕ → ℕ → Belief → Bool
+withLength t k b = on t b && eqb (length (b .chain)) k
+
+-- the words of a frame above r: its signer, and bit k of target t's word says that it holds a chain of length k on t
+pub record FramePictured (p s : List ℕ) (f : Frame) (r : List Frame) : Type 0 where
+  pub known : f .principal .signer < signers p
+  pub signer : signerAt s (length r) ≡ f .principal .signer
+  pub founded : AllFounded p r (f .beliefs)
+  pub lengths : (t k : ℕ) → bit (heldAt s (length r) t) k ≡ any (withLength t k) (f .beliefs)
+
+abbrev pub FramesPictured : List ℕ → List ℕ → List Frame → Type 0
+FramesPictured p s [] = Unit {0}
+FramesPictured p s (f ∷ r) = FramePictured p s f r × FramesPictured p s r
+
+-- the depth, each frame, and nothing but zero in room above the depth
+pub record Pictures (p s : List ℕ) (st : List Frame) : Type 0 where
+  pub room : length st ≤ 63
+  pub deep : getD s 0 0 ≡ length st
+  pub frames : FramesPictured p s st
+  pub above : (i : ℕ) → 65 * length st < i → getD s i 0 ≡ 0
+
+-- an operation word against the belief sets: the number, the answer byte where it is accepted, and the picture
+pub record WordServed (p : List ℕ) (n lent byte : ℕ) (left : List ℕ) (o : Outcome) : Type 0 where
+  pub number : n ≡ o .number
+  pub answer : byte ≡ cond (eqb (o .number) 0) (answerByte false o) lent
+  pub pictures : Pictures p left (o .stack)
+
+-- an operation word: exactly; and past 13 and 14 against the belief sets of any stack that the state pictures
+pub record Operate (p s : List ℕ) (word n lent byte : ℕ) (left : List ℕ) : Type 0 where
+  pub exact : Operated n lent byte left (guarded (recordFits p s) (λ op. stepIn p op s) p word s)
+  pub serves : valid p ≡ true → recordFits p s ≡ true → (st : List Frame) → Pictures p s st
+    → WordServed p n lent byte left (served p (decoded (signers p) (targets p) word 0) st)
