@@ -4,3 +4,5 @@ pub mod Policy
 pub mod Granted
 pub mod Words
 pub mod Engine
+pub mod Counts
+pub mod Asking

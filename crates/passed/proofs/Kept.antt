@@ -1,4 +1,5 @@
--- Whatever the guarded operation hands back is a state that 14 lets through: a host that starts fresh never meets it. Assumes nothing.
+-- A fresh state and whatever the guarded operation hands back are states that 14 lets through: a host that starts fresh and keeps its
+-- policy never meets it. Assumes nothing.
 use mathlib.Core.Path.{_≡_, refl, sym, ap, _∙_}
 use mathlib.Core.Logic.{_≢_}
 use mathlib.Core.Bool.{Bool, true, false, cond}
@@ -20,7 +21,7 @@ use Rattle.beliefs.specs.Stack.{full, startMarks}
 use Rattle.passed.specs.declared.Passed.{Passed}
 use Rattle.passed.specs.declared.Next.{Next}
 use Rattle.passed.specs.declared.Next.the-variants.{Stay, Down, Up, Refused}
-use Rattle.passed.specs.State.{grantedOf, callOf, unless, barredOf, ledTo, nextOf, passedFits, outsideOf, operateOf}
+use Rattle.passed.specs.State.{fresh, grantedOf, callOf, unless, barredOf, ledTo, nextOf, passedFits, outsideOf, operateOf}
 use Rattle.beliefs.proofs.Policy.{Ranges, ranges}
 use Rattle.passed.proofs.Fits.{Framed, fits-framed, framed-fits}
 
@@ -99,6 +100,10 @@ module _ (p : List ℕ) (s : Passed) (few : targets p ≤ 64) (fits : passedFits
       (without-lt (targets p) (s .own) t (f .own), (without-lt (targets p) (s .callers) t (f .callers), λ e. ap (λ (w : ℕ). withoutBit w t) e ∙ sym (without-out 0 t (pow-pos t)))))
   led-fits (Revert t) o b = marks-fit _ _ (fails (eqb (s .depth) 0) noFrame (omega arith) b) (λ f. (without-lt (targets p) (s .own) t (f .own), (f .callers, λ e. e)))
   led-fits (Check t) o b = fits
+
+pub fresh-fits : (p : List ℕ) → passedFits p fresh ≡ true
+unfolding passedFits
+fresh-fits p = refl
 
 pub operate-fits : (p : List ℕ) (s : Passed) (op : Operation) → Fit p (operateOf p s op)
 unfolding operateOf nextOf

@@ -53,7 +53,9 @@ impl Passed {
         ensures { λ r. ⌜ r ≡ grantedOf (now (policy .entry)) self ⌝ }
     {
         let permitted = policy::row(policy, self.signer);
-        permitted & (self.own | self.callers)
+        let own = self.own;
+        let callers = self.callers;
+        permitted & (own | callers)
     }
 
     // The callee's state; at depth 63, where a call is refused, the state as it was.

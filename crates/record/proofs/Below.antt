@@ -70,6 +70,7 @@ some-one true e m n l = go (e m) refl
     at : (k : ℕ) (v : Bool) → eqb m k ≡ v → e m ≡ false → (v && e k) ≡ false
     at k true q z = rw (← eqb-true m k q) z
     at k false q z = refl
+
     go : (v : Bool) → e m ≡ v → some (λ k. eqb m k && e k) n ≡ v
     go true q = some-true (λ k. eqb m k && e k) n m l (rw (eq-eqb m m refl) q)
     go false q = some-false (λ k. eqb m k && e k) n (λ k h. at k (eqb m k) refl q)

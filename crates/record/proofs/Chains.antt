@@ -26,6 +26,7 @@ at-length g t k b = go (on t b) refl (eqb (length (b .chain)) k) refl
   where
     off : (x y : Bool) → (x && false) ≡ (y && false)
     off x y = and-false x ∙ sym (and-false y)
+
     go : (x : Bool) → on t b ≡ x → (y : Bool) → eqb (length (b .chain)) k ≡ y → (g (b .target) (length (b .chain)) && (x && y)) ≡ (g t k && (x && y))
     go true q true m = ap₂ (λ (u n : ℕ). g u n && true) (eqb-true (b .target) t q) (eqb-true (length (b .chain)) k m)
     go true q false m = off (g (b .target) (length (b .chain))) (g t k)

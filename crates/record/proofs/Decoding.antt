@@ -24,8 +24,8 @@ unfolding outsideOf operationOf
 operation-inside p w h = go (eqb (wordOperation w) 0) (eqb (wordOperation w) 1) (eqb (wordOperation w) 2) (eqb (wordOperation w) 3) (eqb (wordOperation w) 4) h
   where
     go : (a b c d e : Bool)
-      → eqb (cond a (cond (ltb (wordSigner w) (signers p)) 0 noSigner) (cond b 0 (cond (ltb (wordTarget w) (targets p)) 0 noTarget))) 0 ≡ true
-      → inside p (cond a (Call (wordSigner w)) (cond b Return (cond c (Enable (wordTarget w)) (cond d (Disable (wordTarget w)) (cond e (Revert (wordTarget w)) (Check (wordTarget w))))))) ≡ true
+        → eqb (cond a (cond (ltb (wordSigner w) (signers p)) 0 noSigner) (cond b 0 (cond (ltb (wordTarget w) (targets p)) 0 noTarget))) 0 ≡ true
+        → inside p (cond a (Call (wordSigner w)) (cond b Return (cond c (Enable (wordTarget w)) (cond d (Disable (wordTarget w)) (cond e (Revert (wordTarget w)) (Check (wordTarget w))))))) ≡ true
     go true b c d e q = let-through (ltb (wordSigner w) (signers p)) noSigner refl q
     go false true c d e q = refl
     go false false true d e q = let-through (ltb (wordTarget w) (targets p)) noTarget refl q
@@ -38,8 +38,8 @@ unfolding decoded
 decoded-inside p w i x h = go (ltb 5 (wordOperation w)) (strayIn w) (eqb (outsideOf (signers p) (targets p) w) 0) refl h
   where
     go : (a b c : Bool) → eqb (outsideOf (signers p) (targets p) w) 0 ≡ c
-      → cond a (Refused unknown) (cond b (Refused bitSet) (cond c (Word (record { op = operationOf w; index = i })) (Refused (outsideOf (signers p) (targets p) w)))) ≡ Word x
-      → inside p (x .op) ≡ true
+        → cond a (Refused unknown) (cond b (Refused bitSet) (cond c (Word (record { op = operationOf w; index = i })) (Refused (outsideOf (signers p) (targets p) w)))) ≡ Word x
+        → inside p (x .op) ≡ true
     go true b c q e = cc
     go false true c q e = cc
     go false false true q e = let same : record { op = operationOf w; index = i } ≡ x = cc in ap (λ (y : Held). inside p (y .op)) (sym same) ∙ operation-inside p w q
@@ -50,8 +50,8 @@ unfolding decoded
 refused-number s n w i k h = go (ltb 5 (wordOperation w)) (strayIn w) (eqb (outsideOf s n w) 0) refl h
   where
     go : (a b c : Bool) → eqb (outsideOf s n w) 0 ≡ c
-      → cond a (Refused unknown) (cond b (Refused bitSet) (cond c (Word (record { op = operationOf w; index = i })) (Refused (outsideOf s n w)))) ≡ Refused k
-      → eqb k 0 ≡ false
+        → cond a (Refused unknown) (cond b (Refused bitSet) (cond c (Word (record { op = operationOf w; index = i })) (Refused (outsideOf s n w)))) ≡ Refused k
+        → eqb k 0 ≡ false
     go true b c q e = let same : unknown ≡ k = cc in rw (← same)
     go false true c q e = let same : bitSet ≡ k = cc in rw (← same)
     go false false true q e = cc

@@ -134,10 +134,10 @@ unfolding stood
 stood-lengths s r low t k =
     let w : ℕ → ℕ → Bool = λ u n. bit (heldAt s (length r) u) n in
     sym (any-keep (withLength t k) (λ b. w (b .target) (length (b .chain))) (everyBelief r 64)
-      ∙ any-ext (λ b. w (b .target) (length (b .chain)) && withLength t k b) (λ b. w t k && withLength t k b) (at-length w t k) (everyBelief r 64)
-      ∙ any-and (w t k) (withLength t k) (everyBelief r 64)
-      ∙ ap (λ (x : Bool). w t k && x) (every-lengths t k r 64)
-      ∙ go (ltb t 64) refl (ltb k (suc (length r))) refl)
+    ∙ any-ext (λ b. w (b .target) (length (b .chain)) && withLength t k b) (λ b. w t k && withLength t k b) (at-length w t k) (everyBelief r 64)
+    ∙ any-and (w t k) (withLength t k) (everyBelief r 64)
+    ∙ ap (λ (x : Bool). w t k && x) (every-lengths t k r 64)
+    ∙ go (ltb t 64) refl (ltb k (suc (length r))) refl)
   where
     go : (x : Bool) → ltb t 64 ≡ x → (y : Bool) → ltb k (suc (length r)) ≡ y → (bit (heldAt s (length r) t) k && (x && y)) ≡ bit (heldAt s (length r) t) k
     go true q true m = and-true (bit (heldAt s (length r) t) k)

@@ -44,12 +44,12 @@ module _ (p s : List ℕ) (word lent : ℕ) where
         })
 
     pub good-word : (x : Held) (r : Answer) (left : List ℕ) (n byte : ℕ) → d ≡ Word x → Serve (Pictures p) false p s (x .op) r left (stepIn p (x .op) s)
-      → n ≡ r .number → byte ≡ cond (eqb n 0) (r .byte) lent → Operate p s word n lent byte left
+        → n ≡ r .number → byte ≡ cond (eqb n 0) (r .byte) lent → Operate p s word n lent byte left
     unfolding guarded
     good-word x r left n byte e v same w = record {
       exact = rw (ok, fits, ← read, e) (record { number = same ∙ v .gives .number; answer = answer (v .gives .number) (v .gives .byte); state = v .gives .state });
       serves = λ _ _ st h. let o = v .serves ok (decoded-inside p word 0 x (sym read ∙ e)) st h in
-        rw (← read, e) (record { number = same ∙ o .number; answer = answer (o .number) (o .byte); pictures = o .pictures });
+          rw (← read, e) (record { number = same ∙ o .number; answer = answer (o .number) (o .byte); pictures = o .pictures });
     }
       where
         answer : {m b : ℕ} → r .number ≡ m → r .byte ≡ b → byte ≡ cond (eqb m 0) b lent

@@ -99,7 +99,7 @@ module _ (p s : List ℕ) (whole : length s ≡ 4096) (f : Frame) (r : List Fram
       go false q false m = refl
 
   kept : (w : ℕ) (g : Frame) → g .principal ≡ f .principal → AllFounded p r (g .beliefs)
-    → ((u k : ℕ) → bit (cond (eqb t u) w (heldAt s (length r) u)) k ≡ any (withLength u k) (g .beliefs)) → Pictures p (heldIn t w s) (g ∷ r)
+      → ((u k : ℕ) → bit (cond (eqb t u) w (heldAt s (length r) u)) k ≡ any (withLength u k) (g .beliefs)) → Pictures p (heldIn t w s) (g ∷ r)
   kept w g same founded lengths =
       let top : depth s - 1 ≡ length r = omega (arith, h .room, h .deep) in
       let other : (i : ℕ) → i ≢ 65 * length r + 2 + t → getD (set s (65 * length r + 2 + t) w) i 0 ≡ getD s i 0 = λ i n. getD-set-other s (65 * length r + 2 + t) i w 0 n in
@@ -108,12 +108,15 @@ module _ (p s : List ℕ) (whole : length s ≡ 4096) (f : Frame) (r : List Fram
       (record {
         room = h .room;
         deep = other 0 (omega arith) ∙ h .deep;
-        frames = (record {
-          known = omega (arith, h .frames .0 .known);
-          signer = other (65 * length r + 1) (omega arith) ∙ h .frames .0 .signer ∙ sym signer;
-          founded = founded;
-          lengths = λ u k. ap (λ (v : ℕ). bit v k) (held-now w u) ∙ lengths u k;
-        }, frames-same p s (set s (65 * length r + 2 + t) w) r (λ i a b. other i (omega arith)) (h .frames .1));
+        frames = (
+          record {
+            known = omega (arith, h .frames .0 .known);
+            signer = other (65 * length r + 1) (omega arith) ∙ h .frames .0 .signer ∙ sym signer;
+            founded = founded;
+            lengths = λ u k. ap (λ (v : ℕ). bit v k) (held-now w u) ∙ lengths u k;
+          },
+          frames-same p s (set s (65 * length r + 2 + t) w) r (λ i a b. other i (omega arith)) (h .frames .1),
+        );
         above = λ i l. other i (omega arith) ∙ h .above i l;
       })
 
@@ -142,9 +145,9 @@ module _ (p s : List ℕ) (whole : length s ≡ 4096) (f : Frame) (r : List Fram
       let top : depth s - 1 ≡ length r = omega (arith, h .room, h .deep) in
       kept (withoutBit (held s t) 0) (revert t f) refl (founded-keep p r (λ b. not (own t b)) (f .beliefs) (h .frames .0 .founded))
       (λ u k. rw top (go u k (eqb t u) refl)
-        ∙ sym (any-keep (withLength u k) (λ b. not (own t b)) (f .beliefs)
-          ∙ any-ext (λ b. not (own t b) && withLength u k b) (λ b. not (eqb t u && eqb 0 k) && withLength u k b) (own-length t u k) (f .beliefs)
-          ∙ any-and (not (eqb t u && eqb 0 k)) (withLength u k) (f .beliefs)))
+      ∙ sym (any-keep (withLength u k) (λ b. not (own t b)) (f .beliefs)
+      ∙ any-ext (λ b. not (own t b) && withLength u k b) (λ b. not (eqb t u && eqb 0 k) && withLength u k b) (own-length t u k) (f .beliefs)
+      ∙ any-and (not (eqb t u && eqb 0 k)) (withLength u k) (f .beliefs)))
     where
       go : (u k : ℕ) (e : Bool) → eqb t u ≡ e → bit (cond e (withoutBit (heldAt s (length r) t) 0) (heldAt s (length r) u)) k ≡ (not (e && eqb 0 k) && any (withLength u k) (f .beliefs))
       go u k true q = bit-without (heldAt s (length r) t) 0 k ∙ ap (λ (x : Bool). not (eqb 0 k) && x) (rw (eqb-true t u q) (h .frames .0 .lengths u k))
@@ -206,6 +209,7 @@ module _ (p s : List ℕ) (g : ℕ) where
       one : (e : Bool) → bit (cond e 1 0) 0 ≡ e
       one true = refl
       one false = refl
+
       start : (e : Bool) → ltb t (cond e (targets p) 0) ≡ (e && ltb t (targets p))
       start true = refl
       start false = le-ltb t 0 (omega arith)
@@ -226,15 +230,16 @@ module _ (p s : List ℕ) (g : ℕ) where
     where
       few : heldAt s (length r) t < 2 ^ 63
       few = high-bits 63 (heldAt s (length r) t) (λ u l. h .frames .0 .lengths t u ∙ none-longer p r t u (omega (arith, h .room)) (f .beliefs) (h .frames .0 .founded))
+
       go : (k : ℕ) → bit (longer (heldAt s (length r) t)) k ≡ any (withLength t k) (map (said (f .principal)) (f .beliefs))
       go zero =
           longer-none (heldAt s (length r) t) few
           ∙ sym (any-map (withLength t 0) (said (f .principal)) (f .beliefs)
-            ∙ any-never (λ b. on t b && eqb (suc (length (b .chain))) 0) (λ b. rw (eqb·suc-zero (length (b .chain))) (and-false (on t b))) (f .beliefs))
+          ∙ any-never (λ b. on t b && eqb (suc (length (b .chain))) 0) (λ b. rw (eqb·suc-zero (length (b .chain))) (and-false (on t b))) (f .beliefs))
       go (suc k) =
           longer-more (heldAt s (length r) t) k few ∙ h .frames .0 .lengths t k
           ∙ sym (any-map (withLength t (suc k)) (said (f .principal)) (f .beliefs)
-            ∙ any-ext (λ b. on t b && eqb (suc (length (b .chain))) (suc k)) (withLength t k) (λ b. rw (eqb·suc-suc (length (b .chain)) k)) (f .beliefs))
+          ∙ any-ext (λ b. on t b && eqb (suc (length (b .chain))) (suc k)) (withLength t k) (λ b. rw (eqb·suc-suc (length (b .chain)) k)) (f .beliefs))
 
   handed-lengths : (st : List Frame) → Pictures p s st → (t k : ℕ) → bit (handed p s t) k ≡ any (withLength t k) (called p g st .beliefs)
   unfolding handed
@@ -251,6 +256,7 @@ module _ (p s : List ℕ) (g : ℕ) where
       most : (e : Bool) → cond e (targets p) 0 ≤ 64
       most true = few
       most false = omega arith
+
       go : (e : Bool) → cond e (cond (ltb t (startTargets p)) 1 0) (longer (cond (ltb t 64) (getD s (65 * (depth s - 1) + 2 + t) 0) 0)) ≡ 0
       go true = rw (le-ltb t (startTargets p) (omega (arith, most (full p))))
       go false = rw (le-ltb t 64 l)
@@ -282,16 +288,19 @@ module _ (p s : List ℕ) (g : ℕ) where
       let l₂ : length s₂ ≡ length s₁ = length-set s₁ (at + 1) g in
       let other : (i : ℕ) → i ≢ 0 → getD (set s₂ 0 (length st + 1)) i 0 ≡ getD s₂ i 0 = λ i n. getD-set-other s₂ 0 i (length st + 1) 0 n in
       let stays : (i : ℕ) → 0 < i → ((k : ℕ) → k < 64 → i ≢ at + 2 + k) → i ≢ at + 1 → getD (set s₂ 0 (length st + 1)) i 0 ≡ getD s i 0 =
-          λ i a n m. other i (omega arith) ∙ getD-set-other s₁ (at + 1) i g 0 m ∙ filled-other (at + 2) (handed p s) s 64 i n in
+      λ i a n m. other i (omega arith) ∙ getD-set-other s₁ (at + 1) i g 0 m ∙ filled-other (at + 2) (handed p s) s 64 i n in
       rw top
       (record {
         room = room;
         deep = getD-set-same s₂ 0 (length st + 1) 0 (omega arith) ∙ up;
-        frames = (record {
-          known = rw (called-signer st) inside;
-          signer = other (at + 1) (omega arith) ∙ getD-set-same s₁ (at + 1) g 0 (omega arith) ∙ sym (called-signer st);
-          founded = handed-founded st h;
-          lengths = λ t k. ap (λ (w : ℕ). bit w k) (called-held whole few (length st) room t) ∙ handed-lengths st h t k;
-        }, frames-same p s (set s₂ 0 (length st + 1)) st (λ i a b. stays i a (λ k l e. absurd (omega arith)) (omega arith)) (h .frames));
+        frames = (
+          record {
+            known = rw (called-signer st) inside;
+            signer = other (at + 1) (omega arith) ∙ getD-set-same s₁ (at + 1) g 0 (omega arith) ∙ sym (called-signer st);
+            founded = handed-founded st h;
+            lengths = λ t k. ap (λ (w : ℕ). bit w k) (called-held whole few (length st) room t) ∙ handed-lengths st h t k;
+          },
+          frames-same p s (set s₂ 0 (length st + 1)) st (λ i a b. stays i a (λ k l e. absurd (omega arith)) (omega arith)) (h .frames),
+        );
         above = λ i l. stays i (omega arith) (λ k m e. absurd (omega arith)) (omega arith) ∙ h .above i (omega arith);
       })

@@ -45,6 +45,7 @@ module _ (at : ℕ) (w : ℕ → ℕ) (s : List ℕ) where
     where
       long : at + n < length (filled at w n s)
       long = omega (arith, length-filled n)
+
       go : (e : Bool) → eqb k n ≡ e → (k < n → getD (filled at w n s) (at + k) 0 ≡ w k) → getD (set (filled at w n s) (at + n) (w n)) (at + k) 0 ≡ w k
       go true q ih = rw (eqb-true k n q) (getD-set-same (filled at w n s) (at + n) (w n) 0 long)
       go false q ih =
@@ -83,8 +84,10 @@ below-or a b n = go (decLt a (2 ^ n)) (decLt b (2 ^ n))
   where
     above-a : a ≤ bitOr a b
     above-a = omega (arith, or-add-and a b, and-le-r a b)
+
     above-b : b ≤ bitOr a b
     above-b = omega (arith, or-add-and a b, and-le-l a b)
+
     go : Dec (a < 2 ^ n) → Dec (b < 2 ^ n) → ltb (bitOr a b) (2 ^ n) ≡ (ltb a (2 ^ n) && ltb b (2 ^ n))
     go (yes h) (yes k) = rw (lt-ltb _ _ (or-lt n a b h k), lt-ltb _ _ h, lt-ltb _ _ k)
     go (yes h) (no k) = rw (le-ltb (bitOr a b) (2 ^ n) (omega (arith, above-b)), lt-ltb _ _ h, le-ltb b (2 ^ n) (omega arith))

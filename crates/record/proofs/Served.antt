@@ -47,7 +47,7 @@ module _ (p s : List ℕ) (ok : valid p ≡ true) (whole : length s ≡ 4096) wh
   a-frame m o f r h k = rw (ne-eqb (depth s) 0 (omega (arith, h .deep))) k
 
   newest-kept : (t w : ℕ) (g : Frame → Frame) (st : List Frame) → Pictures p s st
-    → ((f : Frame) (r : List Frame) → Pictures p s (f ∷ r) → Pictures p (heldIn t w s) (g f ∷ r)) → Mirrors p (holdIn t w s) (byNewest g st)
+      → ((f : Frame) (r : List Frame) → Pictures p s (f ∷ r) → Pictures p (heldIn t w s) (g f ∷ r)) → Mirrors p (holdIn t w s) (byNewest g st)
   unfolding holdIn
   newest-kept t w g [] h k = no-frame (doneIn (heldIn t w s)) h
   newest-kept t w g (f ∷ r) h k = a-frame (doneIn (heldIn t w s)) (done (g f ∷ r)) f r h (record { number = refl; byte = refl; pictures = k f r h })
@@ -67,6 +67,7 @@ module _ (p s : List ℕ) (ok : valid p ≡ true) (whole : length s ≡ 4096) wh
     where
       deep : ltb (depth s) 63 ≡ ltb (length st) 63
       deep = let d : depth s ≡ length st = omega (arith, h .room, h .deep) in ap (λ (n : ℕ). ltb n 63) d
+
       go : (e : Bool) → ltb (length st) 63 ≡ e → Mirrors p (cond e (doneIn (calledIn p g s)) (refuseIn tooDeep s)) (cond e (done (called p g st ∷ st)) (refuse tooDeep st))
       go true q = record { number = refl; byte = refl; pictures = call-kept p s g whole (few-targets p ok) (ltb-true g (signers p) i) st (ltb-true (length st) 63 q) h }
       go false q = refused tooDeep st h
@@ -83,5 +84,5 @@ pub promised : (p s : List ℕ) → length s ≡ 4096 → (op : Operation) (r : 
 promised p s whole op r left g = record {
   gives = g;
   serves = λ ok i st h. let m : Mirrors p (stepIn p op s) (step p op st) = simulate p s ok whole op i st h in
-    record { number = g .number ∙ m .number; byte = g .byte ∙ m .byte; pictures = rw (g .state) (m .pictures) };
+      record { number = g .number ∙ m .number; byte = g .byte ∙ m .byte; pictures = rw (g .state) (m .pictures) };
 }

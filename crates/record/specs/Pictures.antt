@@ -58,4 +58,4 @@ pub record WordServed (p : List ℕ) (n lent byte : ℕ) (left : List ℕ) (o : 
 pub record Operate (p s : List ℕ) (word n lent byte : ℕ) (left : List ℕ) : Type 0 where
   pub exact : Operated n lent byte left (guarded (recordFits p s) (λ op. stepIn p op s) p word s)
   pub serves : valid p ≡ true → recordFits p s ≡ true → (st : List Frame) → Pictures p s st
-    → WordServed p n lent byte left (served p (decoded (signers p) (targets p) word 0) st)
+      → WordServed p n lent byte left (served p (decoded (signers p) (targets p) word 0) st)

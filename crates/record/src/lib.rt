@@ -7,7 +7,6 @@ ghost use Rattle.beliefs.specs.Lists.{each};
 ghost use Rattle.beliefs.specs.Engine.{Gives, Serve};
 ghost use Rattle.record.specs.Record.{depth, signerAt, held, wordsBelow, words, frameFits, recordFits, filled, startTargets, startWord, longer, handed, callIn, clearedIn, returnIn, holdIn, grantedIn, checkIn, stepIn};
 ghost use Rattle.record.specs.Pictures.{Pictures, Operate};
-
 use beliefs::Answer;
 use beliefs::Decoded;
 use beliefs::Operation;
@@ -20,7 +19,9 @@ const FRAME: u64 = 65;
 
 // The answer bytes: this engine counts no frames.
 const DONE: u8 = 0;
+
 const GRANTED: u8 = 64;
+
 const FORBIDDEN: u8 = 128;
 
 fn refused(number: u8) -> Answer
@@ -151,7 +152,11 @@ fn start_word(target: u64, n: u64) -> u64
 fn start_targets(policy: &[u64; 35]) -> u64
     ensures { λ r. ⌜ r ≡ startTargets (now (policy .entry)) ⌝ }
 {
-    if policy::is_full(policy) { policy::targets(policy) } else { 0 }
+    if policy::is_full(policy) {
+        policy::targets(policy)
+    } else {
+        0
+    }
 }
 
 // The words of a bottom frame.

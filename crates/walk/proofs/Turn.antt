@@ -3,10 +3,9 @@ use mathlib.Core.Path.{_≡_, refl, sym, ap, _∙_}
 use mathlib.Core.Logic.{_≢_}
 use mathlib.Core.Bool.{Bool, true, false, cond}
 use mathlib.Core.List.{List, _∷_}
-use Prim.Native.Nat.{ℕ, suc, _+_, _-_, _≤_}
+use Prim.Native.Nat.{ℕ, suc, _+_, _-_}
 use native.Mathlib.Nat.{zero-add, add-zero}
 use native.Mathlib.Omega.{arith}
-use lib.ListN.{length}
 use Rattle.bits.specs.Bit.{bit}
 use Rattle.beliefs.specs.declared.Marked.{Marked}
 use Rattle.beliefs.specs.declared.Seen.{Seen}
@@ -53,15 +52,3 @@ module _ (p s : List ℕ) (t left looked : ℕ) (total : Seen) (inv : total ≡ 
             let v : Seen = walk p t (framesAt s (left - 1)) in
             let n : looked + suc (v .looked) ≡ looked + 1 + v .looked = omega arith in
             (rw (allowed, idle, d) at turn) ∙ ap (λ (x : ℕ). record { granted = v .granted; looked = x }) n
-
--- the frames looked at are at most the frames there are
-looked-step : (q e d : Bool) (v : Seen) (n : ℕ) → v .looked ≤ n → cond q (cond e (decides true) (cond d (decides false) (goesOn v))) (decides false) .looked ≤ suc n
-looked-step false e d v n h = omega arith
-looked-step true true d v n h = omega arith
-looked-step true false true v n h = omega arith
-looked-step true false false v n h = omega arith
-
-pub looked-le : (p : List ℕ) (t : ℕ) (ms : List Marked) → walk p t ms .looked ≤ length ms
-unfolding walk
-looked-le p t List.[] = omega arith
-looked-le p t (m ∷ ms) = looked-step (permits p (m .signer) t) (bit (m .enabled) t) (bit (m .disabled) t) (walk p t ms) (length ms) (looked-le p t ms)

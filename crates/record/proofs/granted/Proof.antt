@@ -59,9 +59,13 @@ loop-less : tie.Need-loop-less Inv-loop μ-loop
 loop-less c = search needs
 
 loop-again : tie.Need-loop-again Inv-loop μ-loop
-loop-again c =
-    (omega arith, (each-more _ _ (c .before .before .before .before .before .before .loop .inv .1 .0) (rw (← c .before .before .before .before .before .before .before .before .depth .ensures, ← c .before .before .before .before .signer .ensures, ← c .before .before .before .permits .ensures) (not-false _ (c .before .before .if1 .left))),
-        below-more _ _ (c .before .before .before .before .before .before .loop .inv .1 .1) (rw (← c .before .before .before .before .before .before .before .held .ensures, ← c .before .has .ensures) (c .if2 .left))))
+loop-again c = (
+  omega arith,
+  (
+    each-more _ _ (c .before .before .before .before .before .before .loop .inv .1 .0) (rw (← c .before .before .before .before .before .before .before .before .depth .ensures, ← c .before .before .before .before .signer .ensures, ← c .before .before .before .permits .ensures) (not-false _ (c .before .before .if1 .left))),
+    below-more _ _ (c .before .before .before .before .before .before .loop .inv .1 .1) (rw (← c .before .before .before .before .before .before .before .held .ensures, ← c .before .has .ensures) (c .if2 .left)),
+  ),
+)
 
 returns-3 : tie.Need-returns-3 Inv-loop μ-loop
 returns-3 c = sym (tried-none _ _ _ (λ i l. c .before .loop .inv .1 .1 i (omega arith)))

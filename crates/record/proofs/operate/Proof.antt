@@ -31,7 +31,7 @@ valid-requires-2 : tie.Need-valid-requires-2
 valid-requires-2 c κs = search needs
 
 returns-2 : tie.Need-returns-2
-returns-2 c = bad-state _ _ _ _ (ok (c .before .before .before )) (sym (c .before .valid2 .ensures) ∙ not-true _ (c .if2 .taken))
+returns-2 c = bad-state _ _ _ _ (ok (c .before .before .before)) (sym (c .before .valid2 .ensures) ∙ not-true _ (c .if2 .taken))
 
 signers-requires : tie.Need-signers-requires
 signers-requires c κs = search needs
@@ -52,16 +52,16 @@ number-requires : tie.Need-number-requires
 number-requires c κs = search needs
 
 returns-3 : tie.Need-returns-3
-returns-3 c = bad-word _ _ _ _ (ok (c .before .before .before .before .before .before .before .before .before )) (fits (c .before .before .before .before .before .before )) _ (read (c .before .before .before )) _ _ (c .before .enum-told .given .1) (c .number .ensures)
+returns-3 c = bad-word _ _ _ _ (ok (c .before .before .before .before .before .before .before .before .before)) (fits (c .before .before .before .before .before .before)) _ (read (c .before .before .before)) _ _ (c .before .enum-told .given .1) (c .number .ensures)
 
 serve-requires : tie.Need-serve-requires
 serve-requires c κs = search needs
 
 returns-4 : tie.Need-returns-4
-returns-4 c = good-word _ _ _ _ (ok (c .before .before .before .before .before .before .before .before .before .before .before .before .before )) (fits (c .before .before .before .before .before .before .before .before .before .before )) _ (read (c .before .before .before .before .before .before .before )) _ _ _ _ _ (c .before .before .before .before .before .decoded .given .1) (c .before .before .serve .ensures) refl (rw (ne-eqb _ _ (c .if3 .taken)))
+returns-4 c = good-word _ _ _ _ (ok (c .before .before .before .before .before .before .before .before .before .before .before .before .before)) (fits (c .before .before .before .before .before .before .before .before .before .before)) _ (read (c .before .before .before .before .before .before .before)) _ _ _ _ _ (c .before .before .before .before .before .decoded .given .1) (c .before .before .serve .ensures) refl (rw (ne-eqb _ _ (c .if3 .taken)))
 
 returns-5 : tie.Need-returns-5
-returns-5 c = good-word _ _ _ _ (ok (c .before .before .before .before .before .before .before .before .before .before .before .before .before )) (fits (c .before .before .before .before .before .before .before .before .before .before )) _ (read (c .before .before .before .before .before .before .before )) _ _ _ _ _ (c .before .before .before .before .before .decoded .given .1) (c .before .before .serve .ensures) (sym (c .if3 .left)) refl
+returns-5 c = good-word _ _ _ _ (ok (c .before .before .before .before .before .before .before .before .before .before .before .before .before)) (fits (c .before .before .before .before .before .before .before .before .before .before)) _ (read (c .before .before .before .before .before .before .before)) _ _ _ _ _ (c .before .before .before .before .before .decoded .given .1) (c .before .before .serve .ensures) (sym (c .if3 .left)) refl
 
 pub operate-spec : {M : Type 1} → statement M
 operate-spec =

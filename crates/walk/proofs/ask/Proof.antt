@@ -8,7 +8,7 @@ use native.Mathlib.Omega.{arith}
 use Rattle.beliefs.specs.declared.Seen.{Seen}
 use Rattle.beliefs.specs.Stack.{walk}
 use Rattle.walk.specs.State.{depth, frames, checkIn}
-use Rattle.walk.proofs.Turn.{looked-le}
+use Rattle.beliefs.proofs.Counts.{looked-le}
 use Rattle.walk.proofs.Frames.{framesAt-length}
 use Rattle.walk.proofs.ask.Statement.{statement}
 use Rattle.walk.proofs.ask.Tie as tie

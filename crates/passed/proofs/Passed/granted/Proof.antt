@@ -7,7 +7,7 @@ row-requires : tie.Need-row-requires
 row-requires c κs = search needs
 
 returns : tie.Need-returns
-returns c = rw (c .before .row .ensures)
+returns c = rw (c .row .ensures)
 
 pub granted-spec : {M : Type 1} → statement M
 granted-spec = tie.close (tie.spec row-requires returns)
