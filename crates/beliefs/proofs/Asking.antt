@@ -1,10 +1,9 @@
 -- "Enable adds Ok(T), whether or not the policy permits the signer (000 and 002; 001 asks the policy first. On every check the verdict is equal)."
 -- A trace is run a second time with an enable that asks the policy first; every answer of the two is equal. Assumes nothing.
 use mathlib.Core.Path.{_≡_, refl, sym, ap, ap₂, _∙_}
-use mathlib.Core.Bool.{Bool, true, false, cond, not, _&&_, _||_, and-false}
+use mathlib.Core.Bool.{Bool, true, false, cond, not, _&&_, _||_}
 use mathlib.Core.List.{List, [], _∷_}
 use Prim.Native.Nat.{ℕ, suc, _+_, _*_}
-use native.Mathlib.Omega.{arith}
 use lib.Dec.{eqb, ltb}
 use lib.ListN.{length}
 use borrow.Author.Tests.{eqb-true}
@@ -17,9 +16,9 @@ use Rattle.beliefs.specs.Account.{Account, told, before}
 use Rattle.beliefs.specs.Policy.{signers, targets}
 use Rattle.beliefs.specs.Stack.{Principal, Frame, own, permitted, granted, called, enable, disable, revert}
 use Rattle.beliefs.specs.Words.{decoded}
-use Rattle.beliefs.specs.Trace.{Outcome, refuse, done, byNewest, returned, checked, answerByte, step, served, runFrom}
+use Rattle.beliefs.specs.Trace.{Outcome, refuse, done, byNewest, answerByte, step, served, runFrom}
 use Rattle.beliefs.specs.Engine.{inherited}
-use Rattle.beliefs.proofs.Granted.{granted-split, own-enable, own-disable, own-revert, inherited-enable, inherited-disable, inherited-revert, own-start, inherited-start, own-called, inherited-called}
+use Rattle.beliefs.proofs.Granted.{granted-split, own-enable, own-disable, own-revert, inherited-enable, inherited-disable, inherited-revert, own-called, inherited-called}
 
 -- the enable that asks first, and the run with it
 abbrev pub enableAsking : List ℕ → ℕ → Frame → Frame

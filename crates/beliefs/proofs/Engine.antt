@@ -1,5 +1,5 @@
 -- One word, for every engine: each way out of an engine's `operate` keeps its promise. Assumes nothing.
-use mathlib.Core.Path.{_≡_, refl, sym, ap, _∙_}
+use mathlib.Core.Path.{_≡_, refl, sym, _∙_}
 use mathlib.Core.Logic.{_≢_}
 use mathlib.Core.Bool.{Bool, true, false, cond}
 use mathlib.Core.List.{List}
@@ -15,9 +15,9 @@ use Rattle.beliefs.specs.declared.Answer.{Answer}
 use Rattle.beliefs.specs.Policy.{signers, targets, valid}
 use Rattle.beliefs.specs.Stack.{Frame}
 use Rattle.beliefs.specs.Words.{decoded}
-use Rattle.beliefs.specs.Trace.{Outcome, answerByte, step, served}
-use Rattle.beliefs.specs.Engine.{inside, Moved, Serves, Serve, decodedIn, guarded, Operated, Answers, Operate}
-use Rattle.beliefs.proofs.Words.{Fair, decoded-fair}
+use Rattle.beliefs.specs.Trace.{Outcome}
+use Rattle.beliefs.specs.Engine.{inside, Moved, Serves, Serve, guarded, Answers, Operate}
+use Rattle.beliefs.proofs.Words.{decoded-fair}
 
 module _ (Pictures : List ℕ → List Frame → Type 0) (counts fits : Bool) (act : Operation → Moved) (p s : List ℕ) (w lent : ℕ) where
   never : {A : Type 0} → true ≡ false → A

@@ -1,7 +1,7 @@
 -- A check is granted where the frame's signer is permitted and the frame owns Ok(T) or inherited it; and what each operation does to the two. Assumes nothing.
 use mathlib.Core.Path.{_≡_, refl, sym, ap, ap₂, _∙_}
-use mathlib.Core.Bool.{Bool, true, false, cond, not, _&&_, _||_, and-false, and-true, or-false}
-use mathlib.Core.List.{List, [], _∷_, map}
+use mathlib.Core.Bool.{Bool, true, false, cond, not, _&&_, _||_, and-false, and-true}
+use mathlib.Core.List.{List, [], _∷_}
 use Prim.Native.Nat.{ℕ, zero, suc}
 use native.Mathlib.Omega.{arith}
 use mathlib.Core.Logic.{_≢_}
@@ -9,7 +9,7 @@ use lib.Dec.{eqb, ltb}
 use borrow.Author.Tests.{eqb-true, eqb-false, eq-eqb, ne-eqb, ltb-true, ltb-false, lt-ltb, le-ltb}
 use Rattle.beliefs.specs.Lists.{any, all, keep, empty}
 use Rattle.beliefs.specs.Policy.{targets}
-use Rattle.beliefs.specs.Stack.{Principal, Belief, Frame, ok, on, own, said, oks, full, startBeliefs, permitted, granted, called, enable, disable, revert}
+use Rattle.beliefs.specs.Stack.{Principal, Belief, Frame, on, own, said, oks, full, permitted, granted, called, enable, disable, revert}
 use Rattle.beliefs.specs.Engine.{inherited}
 use Rattle.beliefs.proofs.Lists.{any-map, any-ext, any-and, any-never, any-keep}
 

@@ -4,5 +4,6 @@ pub mod Policy
 pub mod Granted
 pub mod Words
 pub mod Engine
+pub mod Chosen
 pub mod Counts
 pub mod Asking

@@ -1,7 +1,7 @@
 -- Laws of `any`, `all`, `keep` and `each`. Assumes nothing.
 use mathlib.Core.Path.{_≡_, refl, sym, ap, ap₂, _∙_}
 use mathlib.Core.Bool.{Bool, true, false, cond, _&&_, _||_, and-false, and-true, and-assoc}
-use mathlib.Core.List.{List, [], _∷_, map}
+use mathlib.Core.List.{List, [], _∷_, _++_, map}
 use mathlib.Core.Logic.{_≢_}
 use Prim.Native.Nat.{ℕ, zero, suc, _+_, _<_}
 use native.Mathlib.Numerals.{add-one}
@@ -36,6 +36,14 @@ module _ {A : Type 0} where
       go : (e : Bool) → any f (keep k l) ≡ any (λ a. k a && f a) l → any f (cond e (a ∷ keep k l) (keep k l)) ≡ ((e && f a) || any (λ a. k a && f a) l)
       go true ih = ap (λ (x : Bool). f a || x) ih
       go false ih = ih
+
+  pub any-append : (f : A → Bool) (l m : List A) → any f (l ++ m) ≡ (any f l || any f m)
+  any-append f [] m = refl
+  any-append f (a ∷ l) m = go (f a) (any-append f l m)
+    where
+      go : (e : Bool) → any f (l ++ m) ≡ (any f l || any f m) → (e || any f (l ++ m)) ≡ ((e || any f l) || any f m)
+      go true q = refl
+      go false q = q
 
 -- every number below a bound
 module _ (f : ℕ → Bool) where

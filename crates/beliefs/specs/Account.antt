@@ -1,6 +1,6 @@
 -- What a function that reports answers, and what it leaves in the buffer lent to it.
 use mathlib.Core.Path.{_≡_}
-use mathlib.Core.List.{List, [], _∷_, _++_}
+use mathlib.Core.List.{List, [], _++_}
 use Prim.Native.Nat.{ℕ}
 use lib.Seq.{sets}
 use Rattle.beliefs.specs.declared.Report.{Report}

@@ -6,7 +6,6 @@ use mathlib.Core.List.{List, [], _∷_, map}
 use Prim.Native.Nat.{ℕ}
 use Rattle.bits.specs.Bit.{bit, withBit, withoutBit, below, lowest}
 use Rattle.beliefs.specs.Lists.{each}
-use Rattle.beliefs.specs.Numbers.{notEmpty, notAllowed, noFrame}
 use Rattle.beliefs.specs.Account.{Account, told}
 use Rattle.beliefs.specs.Policy.{permits, rowFits, valid, mirrored, rowOf, rowsOf, valueRead}
 use Rattle.beliefs.specs.Stack.{marked, called, enable, disable, revert, granted, walk}

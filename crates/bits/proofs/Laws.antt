@@ -1,6 +1,6 @@
 -- The laws of a bit, each stated once: what every operation on a word does to each of its bits, and what bounds a word. Assumes nothing.
 use mathlib.Core.Path.{_≡_, refl, sym, ap, _∙_}
-use mathlib.Core.Bool.{Bool, true, false, cond, not, _&&_, _||_}
+use mathlib.Core.Bool.{Bool, true, false, cond, not, _&&_, _||_, and-false}
 use Prim.Native.Nat.{ℕ, zero, suc, _+_, _-_, _*_, _/_, _%_, _^_, _≤_, _<_, min}
 use native.Mathlib.Nat.{div-eq-of-lt, mul-mod-left, one-mul, pow-suc, div-self, lt-of-lt-of-le, mod-lt, lt-of-le-of-lt, div-one, div-lt-iff-lt-mul, zero-div}
 use native.Mathlib.Omega.{arith}
@@ -191,3 +191,11 @@ lowest-low n h = let e : min n 64 ≡ n = omega arith in rw e
 pub lowest-high : (n : ℕ) → 64 ≤ n → lowest n ≡ 2 ^ 64 - 1
 unfolding lowest
 lowest-high n h = let e : min n 64 ≡ 64 = omega arith in rw e
+
+-- a word below 2 ^ n has its bits below n
+pub below-bits : (n w t : ℕ) → w < 2 ^ n → (ltb t n && bit w t) ≡ bit w t
+below-bits n w t h = go (decLt t n)
+  where
+    go : Dec (t < n) → (ltb t n && bit w t) ≡ bit w t
+    go (yes l) = ap (λ (v : Bool). v && bit w t) (lt-ltb t n l)
+    go (no l) = let none : bit w t ≡ false = bit-high n w t h (omega arith) in ap (λ (v : Bool). ltb t n && v) none ∙ and-false (ltb t n) ∙ sym none

@@ -4,14 +4,13 @@ use mathlib.Core.Path.{_≡_, refl, sym, ap, ap₂, _∙_}
 use mathlib.Core.Logic.{_≢_}
 use mathlib.Core.Bool.{Bool, true, false, cond, not, _&&_, _||_, and-false}
 use mathlib.Core.List.{List, [], _∷_, _++_}
-use Prim.Native.Nat.{ℕ, zero, suc, _-_, _^_, _<_}
-use native.Mathlib.Decide.{decLt}
+use Prim.Native.Nat.{ℕ, _-_, _^_, _<_}
 use native.Mathlib.Omega.{arith}
 use lib.Dec.{eqb, ltb}
 use lib.ListN.{length, replicate, length-replicate}
-use borrow.Author.Tests.{eqb-true, eqb-false, lt-ltb, le-ltb, ltb-true, ltb-false}
+use borrow.Author.Tests.{eqb-true, eqb-false}
 use Rattle.bits.specs.Bit.{bit}
-use Rattle.bits.proofs.Laws.{bit-high, bit-none}
+use Rattle.bits.proofs.Laws.{bit-none}
 use Rattle.beliefs.specs.Lists.{any, all, empty}
 use Rattle.beliefs.specs.Policy.{targets, permits}
 use Rattle.beliefs.specs.Stack.{Principal, Belief, Frame, on, own, permitted}
@@ -19,64 +18,16 @@ use Rattle.beliefs.specs.Engine.{inherited}
 use Rattle.passed.specs.declared.Passed.{Passed}
 use Rattle.passed.specs.State.{passedFits}
 use Rattle.passed.specs.Picture.{Knows, PassedOf}
+use Rattle.bits.proofs.Laws.{below-bits}
 use Rattle.beliefs.proofs.Policy.{both}
+use Rattle.beliefs.proofs.Lists.{any-append}
+use Rattle.beliefs.proofs.Chosen.{chosen, chosen-any}
 use Rattle.passed.proofs.Fits.{Framed, fits-fresh, fits-framed}
 
 -- each target in w is permitted to a signer that can be named
 pub record Permitted (p : List ℕ) (w : ℕ) : Type 0 where
   pub signer : ℕ → ℕ
   pub permits : (t : ℕ) → bit w t ≡ true → permits p (signer t) t ≡ true
-
--- a belief on each target below n that is in w, with the chain of its target
-chosen : (ℕ → List Principal) → ℕ → ℕ → List Belief
-chosen chains w zero = []
-chosen chains w (suc n) = cond (bit w n) (record { chain = chains n; target = n } ∷ chosen chains w n) (chosen chains w n)
-
-ltb-step : (t n : ℕ) → (eqb n t || ltb t n) ≡ ltb t (suc n)
-ltb-step t n = go (eqb n t) refl (ltb t n) refl
-  where
-    go : (e : Bool) → eqb n t ≡ e → (l : Bool) → ltb t n ≡ l → (e || l) ≡ ltb t (suc n)
-    go true q l m = let h : n ≡ t = eqb-true n t q in sym (lt-ltb t (suc n) (omega arith))
-    go false q true m = sym (lt-ltb t (suc n) (omega (arith, ltb-true t n m)))
-    go false q false m = let h : n ≢ t = eqb-false n t q in sym (le-ltb t (suc n) (omega (arith, ltb-false t n m)))
-
-any-append : {A : Type 0} (f : A → Bool) (l m : List A) → any f (l ++ m) ≡ (any f l || any f m)
-any-append f [] m = refl
-any-append f (a ∷ l) m = go (f a) (any-append f l m)
-  where
-    go : (e : Bool) → any f (l ++ m) ≡ (any f l || any f m) → (e || any f (l ++ m)) ≡ ((e || any f l) || any f m)
-    go true q = refl
-    go false q = q
-
--- t is n, or is among those before it
-pick : (e l y z : Bool) → (e ≡ true → y ≡ z) → ((e && y) || (l && z)) ≡ ((e || l) && z)
-pick true l y true h = ap (λ (v : Bool). v || (l && true)) (h refl)
-pick true l y false h = ap₂ (λ (u v : Bool). u || v) (h refl) (and-false l)
-pick false l y z h = refl
-
-module _ (chains : ℕ → List Principal) (x : List Principal → Bool) (w t : ℕ) where
-  one-more : (b : Bool) (n : ℕ) (l : List Belief)
-      → any (λ a. on t a && x (a .chain)) (cond b (record { chain = chains n; target = n } ∷ l) l)
-      ≡ ((eqb n t && (b && x (chains n))) || any (λ a. on t a && x (a .chain)) l)
-  one-more true n l = refl
-  one-more false n l = ap (λ (v : Bool). v || any (λ a. on t a && x (a .chain)) l) (sym (and-false (eqb n t)))
-
-  chosen-any : (n : ℕ) → any (λ a. on t a && x (a .chain)) (chosen chains w n) ≡ (ltb t n && (bit w t && x (chains t)))
-  unfolding chosen
-  chosen-any zero = ap (λ (v : Bool). v && (bit w t && x (chains t))) (sym (le-ltb t 0 (omega arith)))
-  chosen-any (suc n) =
-      one-more (bit w n) n (chosen chains w n)
-      ∙ ap (λ (v : Bool). (eqb n t && (bit w n && x (chains n))) || v) (chosen-any n)
-      ∙ pick (eqb n t) (ltb t n) (bit w n && x (chains n)) (bit w t && x (chains t)) (λ q. ap (λ (m : ℕ). bit w m && x (chains m)) (eqb-true n t q))
-      ∙ ap (λ (v : Bool). v && (bit w t && x (chains t))) (ltb-step t n)
-
--- a word below 2 ^ n has its bits below n
-below-bits : (n w t : ℕ) → w < 2 ^ n → (ltb t n && bit w t) ≡ bit w t
-below-bits n w t h = go (decLt t n)
-  where
-    go : Dec (t < n) → (ltb t n && bit w t) ≡ bit w t
-    go (yes l) = ap (λ (v : Bool). v && bit w t) (lt-ltb t n l)
-    go (no l) = let none : bit w t ≡ false = bit-high n w t h (omega arith) in ap (λ (v : Bool). ltb t n && v) none ∙ and-false (ltb t n) ∙ sym none
 
 -- a belief with the empty chain is the frame's own, and one with a caller's is inherited where that caller is permitted
 own-side : (l b c : Bool) → (l && b) ≡ b → ((l && (b && true)) || (l && (c && false))) ≡ b

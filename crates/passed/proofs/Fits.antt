@@ -9,7 +9,7 @@ use lib.Dec.{eqb, ltb, leb}
 use lib.Pow.{pow-pos}
 use borrow.Author.Tests.{lt-ltb, le-leb, eq-eqb, ne-eqb, ltb-true, leb-true, eqb-true, eqb-false}
 use Rattle.bits.specs.Bit.{below}
-use Rattle.beliefs.specs.Policy.{start, signers, targets, within, valid}
+use Rattle.beliefs.specs.Policy.{signers, targets}
 use Rattle.beliefs.proofs.Policy.{both}
 use Rattle.passed.specs.declared.Passed.{Passed}
 use Rattle.passed.specs.State.{fresh, bitsFit, passedFits}

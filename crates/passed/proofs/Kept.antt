@@ -22,7 +22,7 @@ use Rattle.passed.specs.declared.Passed.{Passed}
 use Rattle.passed.specs.declared.Next.{Next}
 use Rattle.passed.specs.declared.Next.the-variants.{Stay, Down, Up, Refused}
 use Rattle.passed.specs.State.{fresh, grantedOf, callOf, unless, barredOf, ledTo, nextOf, passedFits, outsideOf, operateOf}
-use Rattle.beliefs.proofs.Policy.{Ranges, ranges}
+use Rattle.beliefs.proofs.Policy.{ranges}
 use Rattle.passed.proofs.Fits.{Framed, fits-framed, framed-fits}
 
 -- the state that an answer carries, where it carries one

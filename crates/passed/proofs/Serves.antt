@@ -24,7 +24,7 @@ use Rattle.passed.specs.declared.Next.{Next}
 use Rattle.passed.specs.declared.Next.the-variants.{Down}
 use Rattle.passed.specs.State.{fresh, grantedOf, callOf, enableOf, disableOf, revertOf, checkOf, answerOf, barredOf, unless, ledTo, nextOf, passedFits, outsideOf, operateOf}
 use Rattle.passed.specs.Picture.{Knows, PassedOf, Stays, Refuses, Goes, Passes, Operates}
-use Rattle.beliefs.proofs.Policy.{Ranges, ranges}
+use Rattle.beliefs.proofs.Policy.{ranges}
 
 -- a bit of what goes down is the verdict of a check
 pub granted-bit : (p : List ℕ) (s : Passed) (t : ℕ) → bit (grantedOf p s) t ≡ checkOf p s t

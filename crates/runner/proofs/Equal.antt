@@ -1,5 +1,5 @@
 -- Stack walk, belief record and passed state give one verdict on every check of every trace. Assumes nothing.
-use mathlib.Core.Path.{_≡_, refl, sym, ap, _∙_}
+use mathlib.Core.Path.{_≡_, sym, _∙_}
 use mathlib.Core.Bool.{true, false}
 use mathlib.Core.List.{List, map}
 use Prim.Native.Nat.{ℕ}
@@ -21,14 +21,18 @@ pub record OneVerdict (lent : List ℕ) (w r q : Report) (by-walk by-record by-p
 
 -- from the three promises alone, for every policy, trace and lent buffer
 pub three-runs : (p trace lent : List ℕ) (w r q : Report) (by-walk by-record by-passed : List ℕ)
-  → Reports w lent by-walk (run true p trace (length lent)) → Reports r lent by-record (run false p trace (length lent)) → Reports q lent by-passed (run false p trace (length lent))
-  → OneVerdict lent w r q by-walk by-record by-passed
+    → Reports w lent by-walk (run true p trace (length lent)) → Reports r lent by-record (run false p trace (length lent)) → Reports q lent by-passed (run false p trace (length lent))
+    → OneVerdict lent w r q by-walk by-record by-passed
 three-runs p trace lent w r q by-walk by-record by-passed walk record′ passed′ =
     let a : Account = run true p trace (length lent) in
     let same : run false p trace (length lent) ≡ uncounted a = run-uncounted p trace (length lent) in
     let x : Reports r lent by-record (uncounted a) = rw same at record′ in
     let y : Reports q lent by-passed (uncounted a) = rw same at passed′ in
     record {
-        bytes = a .written; walked = walk .buffer; recorded = x .buffer; passed = y .buffer;
-        record-report = λ i. record { number = (x .number ∙ sym (walk .number)) i; figure = (x .figure ∙ sym (walk .figure)) i };
-        passed-report = λ i. record { number = (y .number ∙ sym (walk .number)) i; figure = (y .figure ∙ sym (walk .figure)) i } }
+      bytes = a .written;
+      walked = walk .buffer;
+      recorded = x .buffer;
+      passed = y .buffer;
+      record-report = λ i. record { number = (x .number ∙ sym (walk .number)) i; figure = (x .figure ∙ sym (walk .figure)) i };
+      passed-report = λ i. record { number = (y .number ∙ sym (walk .number)) i; figure = (y .figure ∙ sym (walk .figure)) i };
+    }

@@ -1,5 +1,5 @@
 -- A run over a lent state, for every engine that keeps the promise of one operation: the state pictures the stack that is reached. Assumes nothing.
-use mathlib.Core.Path.{_≡_, refl, sym, ap, _∙_}
+use mathlib.Core.Path.{_≡_, sym, ap, _∙_}
 use mathlib.Core.Logic.{_≢_}
 use mathlib.Core.Bool.{Bool, true}
 use mathlib.Core.List.{List, []}
@@ -9,11 +9,11 @@ use Rattle.beliefs.specs.declared.Answer.{Answer}
 use Rattle.beliefs.specs.declared.Word.{Word as Held}
 use Rattle.beliefs.specs.declared.Decoded.{Decoded}
 use Rattle.beliefs.specs.declared.Decoded.the-variants.{Word, Refused}
-use Rattle.beliefs.specs.Policy.{signers, targets, valid}
+use Rattle.beliefs.specs.Policy.{valid}
 use Rattle.beliefs.specs.Stack.{Frame}
-use Rattle.beliefs.specs.Words.{decoded, numberOf}
-use Rattle.beliefs.specs.Trace.{answerByte, step, served}
-use Rattle.beliefs.specs.Engine.{inside, Moved, Serves, Serve}
+use Rattle.beliefs.specs.Words.{numberOf}
+use Rattle.beliefs.specs.Trace.{served}
+use Rattle.beliefs.specs.Engine.{Moved, Serves, Serve}
 use Rattle.beliefs.proofs.Words.{Fair, decoded-fair}
 use Rattle.runner.specs.Progress.{decodedAt, Answered, Stopped}
 use Rattle.runner.proofs.Progress.{none-yet, finished, refused, one-more}

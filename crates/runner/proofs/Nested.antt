@@ -12,13 +12,13 @@ use Rattle.beliefs.specs.declared.Decoded.the-variants.{Word, Refused as Bad}
 use Rattle.beliefs.specs.Policy.{valid}
 use Rattle.beliefs.specs.Stack.{Frame}
 use Rattle.beliefs.specs.Words.{numberOf}
-use Rattle.beliefs.specs.Trace.{Outcome, answerByte, step, served}
+use Rattle.beliefs.specs.Trace.{answerByte, served}
 use Rattle.passed.specs.declared.Passed.{Passed}
 use Rattle.passed.specs.declared.Next.{Next}
 use Rattle.passed.specs.declared.Next.the-variants.{Stay, Down, Up, Refused}
 use Rattle.passed.specs.Picture.{PassedOf, below, Goes, Passes, Stays, Descends, Ascends, Refuses}
 use Rattle.runner.specs.Progress.{decodedAt, Answered, Stopped}
-use Rattle.runner.specs.Nested.{Left, Leaves}
+use Rattle.runner.specs.Nested.{Leaves}
 use Rattle.runner.proofs.Progress.{none-yet, then-more, then-stopped, finished, refused, one-more}
 use Rattle.runner.proofs.Going.{fair}
 

@@ -3,7 +3,7 @@ use mathlib.Core.Path.{_≡_, refl, sym, ap, ap₂, _∙_}
 use mathlib.Core.Logic.{_≢_}
 use mathlib.Core.Bool.{Bool, true, false, cond}
 use mathlib.Core.List.{List, [], _∷_, _++_, append-assoc, append-nil}
-use Prim.Native.Nat.{ℕ, zero, suc, _+_, _*_, _/_, _%_, _≤_, _<_}
+use Prim.Native.Nat.{ℕ, suc, _+_, _*_, _/_, _%_, _≤_, _<_}
 use native.Mathlib.Omega.{arith}
 use native.Mathlib.Nat.{add-zero}
 use native.Mathlib.Numerals.{add-one}
@@ -12,11 +12,10 @@ use lib.ListN.{length, getD, drop, set, length-append, drop-of-length-le}
 use lib.Seq.{drop-cons, sets}
 use borrow.Author.Tests.{eq-eqb, ne-eqb, le-ltb, eqb-true, ltb-false}
 use Rattle.beliefs.specs.declared.Decoded.{Decoded}
-use Rattle.beliefs.specs.declared.Report.{Report}
 use Rattle.beliefs.specs.Account.{Account, told, before, Reports}
 use Rattle.beliefs.specs.Policy.{valid}
 use Rattle.beliefs.specs.Stack.{Frame}
-use Rattle.beliefs.specs.Trace.{Outcome, answerByte, served, runFrom, run}
+use Rattle.beliefs.specs.Trace.{answerByte, served, runFrom, run}
 use Rattle.runner.specs.Progress.{barred, decodedAt, Answered, Stopped}
 
 -- stores, and answers, one after the other

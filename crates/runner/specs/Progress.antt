@@ -7,7 +7,7 @@ use lib.Dec.{eqb, ltb}
 use lib.ListN.{length, getD, drop}
 use lib.Seq.{sets}
 use Rattle.beliefs.specs.Numbers.{tooFew, noRoom, badPolicy}
-use Rattle.beliefs.specs.Account.{Account, told, before}
+use Rattle.beliefs.specs.Account.{told, before}
 use Rattle.beliefs.specs.declared.Decoded.{Decoded}
 use Rattle.beliefs.specs.Policy.{signers, targets, valid}
 use Rattle.beliefs.specs.Words.{decoded}

@@ -7,7 +7,7 @@ use lib.Dec.{eqb, ltb}
 use Rattle.bits.specs.Bit.{bit, lowest}
 use Rattle.bits.proofs.Laws.{bit-with, bit-without, bit-none, bit-ones, lowest-low}
 use Rattle.beliefs.specs.declared.Seen.{Seen}
-use Rattle.beliefs.specs.Policy.{permits, targets}
+use Rattle.beliefs.specs.Policy.{targets}
 use Rattle.beliefs.specs.Stack.{Frame, marked, granted, permitted, walk, decides, goesOn, full, called, enable, disable, revert}
 use Rattle.beliefs.proofs.Granted.{granted-split, own-enable, own-disable, own-revert, inherited-enable, inherited-disable, inherited-revert, own-start, inherited-start, own-called, inherited-called}
 use Rattle.walk.specs.Coherent.{Sound, Coherent}

@@ -1,32 +1,26 @@
 -- Every valid state pictures some stack of the definition, so no promise about pictured stacks is empty. Assumes nothing.
 use mathlib.Core.Path.{_≡_, refl, sym, ap, ap₂, _∙_}
-use mathlib.Core.Bool.{Bool, true, false, cond, not, _&&_, _||_, and-false, and-true, or-false}
+use mathlib.Core.Bool.{Bool, true, false, not, _&&_, _||_, and-false, and-true, or-false}
 use mathlib.Core.List.{List, [], _∷_, _++_, map}
 use Prim.Native.Nat.{ℕ, zero, suc, _^_, _≤_, _<_}
 use native.Mathlib.Omega.{arith}
-use native.Mathlib.Decide.{decLt}
 use native.Mathlib.Nat.{lt-of-lt-of-le}
 use lib.Pow.{pow-mono}
 use lib.Dec.{eqb, ltb, leb}
 use lib.ListN.{getD, length}
-use borrow.Author.Tests.{eqb-true, lt-ltb, le-ltb, ltb-true, leb-true}
+use borrow.Author.Tests.{eqb-true, lt-ltb, ltb-true, leb-true}
 use Rattle.bits.specs.Bit.{bit, below}
-use Rattle.bits.proofs.Laws.{bit-high}
+use Rattle.bits.proofs.Laws.{below-bits}
 use Rattle.beliefs.specs.declared.Marked.{Marked}
-use Rattle.beliefs.specs.Lists.{any, all, keep, empty, each}
-use Rattle.beliefs.specs.Stack.{Belief, Frame, ok, on, own, said, permitted, granted, marked}
+use Rattle.beliefs.specs.Lists.{any, all, keep, empty}
+use Rattle.beliefs.specs.Stack.{Belief, Frame, on, own, said, permitted, granted, marked}
 use Rattle.beliefs.specs.Engine.{inherited}
 use Rattle.beliefs.specs.Policy.{signers, targets, valid}
-use Rattle.beliefs.proofs.Policy.{both, Ranges, ranges}
-use Rattle.beliefs.proofs.Lists.{any-map, any-ext, any-and, any-never, any-keep, each-at}
-use Rattle.beliefs.proofs.Granted.{ltb-step}
-use Rattle.walk.specs.State.{depth, frameAt, framesAt, frames, frameFits, fits}
+use Rattle.beliefs.proofs.Policy.{both, ranges}
+use Rattle.beliefs.proofs.Lists.{any-map, any-ext, any-and, any-never, any-keep, any-append, each-at}
+use Rattle.beliefs.proofs.Chosen.{chosen, chosen-any}
+use Rattle.walk.specs.State.{depth, frameAt, framesAt, frameFits, fits}
 use Rattle.walk.specs.Coherent.{Sound, Coherent, Pictures}
-
--- Ok(T) for each T below n that is in w
-oks-in : ℕ → ℕ → List Belief
-oks-in w zero = []
-oks-in w (suc n) = cond (bit w n) (ok n ∷ oks-in w n) (oks-in w n)
 
 -- what a callee is handed
 handed : List Frame → List Belief
@@ -37,46 +31,10 @@ handed (f ∷ r) = map (said (f .principal)) (f .beliefs)
 stand : Marked → List Frame → Frame
 stand m st = record {
   principal = record { place = suc (length st); signer = m .signer };
-  beliefs = oks-in (m .enabled) 64 ++ keep (λ b. not (bit (m .disabled) (b .target))) (handed st);
+  beliefs = chosen (λ t. []) (m .enabled) 64 ++ keep (λ b. not (bit (m .disabled) (b .target))) (handed st);
   enabled = m .enabled;
   disabled = m .disabled;
 }
-
-any-append : {A : Type 0} (f : A → Bool) (l m : List A) → any f (l ++ m) ≡ (any f l || any f m)
-any-append f [] m = refl
-any-append f (a ∷ l) m = go (f a) (any-append f l m)
-  where
-    go : (e : Bool) → any f (l ++ m) ≡ (any f l || any f m) → (e || any f (l ++ m)) ≡ ((e || any f l) || any f m)
-    go true q = refl
-    go false q = q
-
-maybe : (b : Bool) (t n : ℕ) (l : List Belief) → any (own t) (cond b (ok n ∷ l) l) ≡ ((b && eqb n t) || any (own t) l)
-maybe true t n l = ap (λ (x : Bool). x || any (own t) l) (and-true (eqb n t))
-maybe false t n l = refl
-
-pick-bit : (e b l x : Bool) → (e ≡ true → b ≡ x) → ((b && e) || (l && x)) ≡ ((e || l) && x)
-pick-bit true true l true h = refl
-pick-bit true true l false h = cc (h refl)
-pick-bit true false l true h = cc (h refl)
-pick-bit true false l false h = and-false l
-pick-bit false b l x h = ap (λ (y : Bool). y || (l && x)) (and-false b)
-
-oks-in-own : (w n t : ℕ) → any (own t) (oks-in w n) ≡ (ltb t n && bit w t)
-unfolding oks-in
-oks-in-own w zero t = ap (λ (x : Bool). x && bit w t) (sym (le-ltb t 0 (omega arith)))
-oks-in-own w (suc n) t =
-    maybe (bit w n) t n (oks-in w n) ∙ ap (λ (x : Bool). (bit w n && eqb n t) || x) (oks-in-own w n t)
-    ∙ pick-bit (eqb n t) (bit w n) (ltb t n) (bit w t) (λ e. ap (bit w) (eqb-true n t e))
-    ∙ ap (λ (x : Bool). x && bit w t) (ltb-step t n)
-
-oks-in-inherited : (p : List ℕ) (w n t : ℕ) → any (inherited p t) (oks-in w n) ≡ false
-unfolding oks-in
-oks-in-inherited p w zero t = refl
-oks-in-inherited p w (suc n) t = go (bit w n) (oks-in-inherited p w n t)
-  where
-    go : (b : Bool) → any (inherited p t) (oks-in w n) ≡ false → any (inherited p t) (cond b (ok n ∷ oks-in w n) (oks-in w n)) ≡ false
-    go true q = ap₂ (λ (x y : Bool). x || y) (and-false (eqb n t)) q
-    go false q = q
 
 -- what is handed: nothing of its own, and all that the caller would be granted
 handed-own : (t : ℕ) (st : List Frame) → any (own t) (handed st) ≡ false
@@ -106,16 +64,14 @@ on-target d t x bs =
 stand-sound : (p : List ℕ) (m : Marked) (st : List Frame) → m .enabled < 2 ^ 64 → Sound p (stand m st) st
 unfolding stand
 stand-sound p m st low = record {
-  owns = λ t. any-append (own t) (oks-in (m .enabled) 64) _
-      ∙ ap₂ (λ (x y : Bool). x || y) (oks-in-own (m .enabled) 64 t) (on-target (bit (m .disabled)) t (λ b. empty (b .chain)) (handed st) ∙ ap (λ (x : Bool). not (bit (m .disabled) t) && x) (handed-own t st) ∙ and-false (not (bit (m .disabled) t)))
-      ∙ or-false (ltb t 64 && bit (m .enabled) t) ∙ low-bits t (decLt t 64);
-  inherits = λ t. any-append (inherited p t) (oks-in (m .enabled) 64) _
-      ∙ ap₂ (λ (x y : Bool). x || y) (oks-in-inherited p (m .enabled) 64 t) (on-target (bit (m .disabled)) t (λ b. not (empty (b .chain)) && all (permitted p t) (b .chain)) (handed st) ∙ ap (λ (x : Bool). not (bit (m .disabled) t) && x) (handed-inherited p t st));
+  owns = λ t. any-append (own t) (chosen (λ t. []) (m .enabled) 64) _
+      ∙ ap₂ (λ (x y : Bool). x || y) (chosen-any (λ t. []) empty (m .enabled) t 64) (on-target (bit (m .disabled)) t (λ b. empty (b .chain)) (handed st) ∙ ap (λ (x : Bool). not (bit (m .disabled) t) && x) (handed-own t st) ∙ and-false (not (bit (m .disabled) t)))
+      ∙ or-false _ ∙ ap (λ (x : Bool). ltb t 64 && x) (and-true (bit (m .enabled) t)) ∙ below-bits 64 (m .enabled) t low;
+  inherits = λ t. any-append (inherited p t) (chosen (λ t. []) (m .enabled) 64) _
+      ∙ ap₂ (λ (x y : Bool). x || y)
+      (chosen-any (λ t. []) (λ c. not (empty c) && all (permitted p t) c) (m .enabled) t 64 ∙ ap (λ (x : Bool). ltb t 64 && x) (and-false (bit (m .enabled) t)) ∙ and-false (ltb t 64))
+      (on-target (bit (m .disabled)) t (λ b. not (empty (b .chain)) && all (permitted p t) (b .chain)) (handed st) ∙ ap (λ (x : Bool). not (bit (m .disabled) t) && x) (handed-inherited p t st));
 }
-  where
-    low-bits : (t : ℕ) → Dec (t < 64) → (ltb t 64 && bit (m .enabled) t) ≡ bit (m .enabled) t
-    low-bits t (yes h) = ap (λ (x : Bool). x && bit (m .enabled) t) (lt-ltb t 64 h)
-    low-bits t (no h) = ap (λ (x : Bool). ltb t 64 && x) (bit-high 64 (m .enabled) t low (omega arith)) ∙ and-false (ltb t 64) ∙ sym (bit-high 64 (m .enabled) t low (omega arith))
 
 -- the stack of the k lowest frames
 stack-of : List ℕ → ℕ → List Frame

@@ -2,24 +2,23 @@
 use mathlib.Core.Path.{_≡_, refl, sym, ap, ap₂, _∙_}
 use mathlib.Core.Bool.{Bool, true, false, cond}
 use mathlib.Core.List.{List, [], _∷_, map}
-use Prim.Native.Nat.{ℕ, zero, suc, _+_, _-_, _*_, _≤_, _<_, min}
+use Prim.Native.Nat.{ℕ, suc, _+_, _-_, _*_, _≤_, _<_}
 use native.Mathlib.Omega.{arith}
 use lib.Dec.{eqb, ltb}
 use lib.ListN.{getD, set, length, replicate}
 use lib.Seq.{getD-set-same}
-use borrow.Author.Tests.{eq-eqb, ne-eqb, ltb-true, ltb-false, lt-ltb, le-ltb}
+use borrow.Author.Tests.{eq-eqb, ne-eqb, ltb-true}
 use Rattle.beliefs.specs.declared.Answer.{Answer}
 use Rattle.beliefs.specs.declared.Marked.{Marked}
-use Rattle.beliefs.specs.declared.Seen.{Seen}
 use Rattle.beliefs.specs.declared.Operation.{Operation}
 use Rattle.beliefs.specs.declared.Operation.the-variants.{Call, Return, Enable, Disable, Revert, Check}
 use Rattle.beliefs.specs.Policy.{targets, valid}
-use Rattle.beliefs.specs.Stack.{Frame, nobody, marked, granted, walk, called, enable, disable, revert, startMarks}
-use Rattle.beliefs.specs.Trace.{Outcome, answerByte, refuse, done, byNewest, returned, checked, step}
+use Rattle.beliefs.specs.Stack.{Frame, nobody, marked, granted, walk, called, enable, disable, revert}
+use Rattle.beliefs.specs.Trace.{Outcome, answerByte, refuse, done, byNewest, checked, step}
 use Rattle.beliefs.specs.Engine.{inside, Moved, refuseIn, doneIn, Gives, Serves, Serve}
 use Rattle.beliefs.proofs.Policy.{Ranges, ranges}
 use Rattle.walk.specs.State.{depth, frameAt, framesAt, frames, put, remarked, markIn, newFrame, callIn, returnIn, checkIn, stepIn}
-use Rattle.walk.specs.Coherent.{Sound, Coherent, Pictures}
+use Rattle.walk.specs.Coherent.{Sound, Pictures}
 use Rattle.walk.proofs.Frames.{length-put, put-frame, put-others, put-depth, set-depth, framesAt-same}
 use Rattle.walk.proofs.Agree.{agree, enable-sound, disable-sound, revert-sound, call-sound}
 

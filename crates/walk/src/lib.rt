@@ -1,9 +1,7 @@
 // The walk: frames with marks in a lent state of 190 words, the operations on them in place, and the check from newest to oldest.
 ghost use mathlib.Core.Path.{_≡_};
-ghost use mathlib.Core.Bool.{Bool, true, cond};
-ghost use Prim.Native.Nat.{ℕ};
+ghost use mathlib.Core.Bool.{true, cond};
 ghost use lib.Dec.{eqb};
-ghost use Rattle.beliefs.specs.Lists.{each};
 ghost use Rattle.beliefs.specs.Stack.{startMarks, walk};
 ghost use Rattle.beliefs.specs.Engine.{Gives, Serve, Operate};
 ghost use Rattle.walk.specs.State.{depth, frameAt, frames, put, remarked, markIn, callIn, returnIn, checkIn, stepIn, inUse, unused, frameFits, fits};

@@ -1,7 +1,6 @@
 -- The tests come in the definition's order, and each callee says what its part of the definition is.
 use borrow.Author.Needs.{needs}
 use borrow.Author.Tests.{lt-ltb, le-ltb, eq-eqb, ne-eqb}
-use mathlib.Core.Path.{sym, _∙_}
 use Rattle.beliefs.specs.Words.{decoded}
 use Rattle.beliefs.proofs.decode.Statement.{statement}
 use Rattle.beliefs.proofs.decode.Tie as tie

@@ -1,6 +1,5 @@
 -- Below 64 a shifted 1 less 1 is `2 ^ n - 1`; from 64 on every bit is set.
 use borrow.Author.Needs.{needs}
-use native.Mathlib.Omega.{arith}
 use mathlib.Core.Path.{ap, sym, _∙_}
 use Prim.Native.Nat.{ℕ, _-_}
 use native.Mathlib.Nat.{le-of-lt}

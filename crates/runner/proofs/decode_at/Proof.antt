@@ -1,7 +1,7 @@
 -- Two bytes make a word below 2 ^ 16, and the decoder's promise is the definition's.
 use borrow.Author.Needs.{needs}
 use native.Mathlib.Omega.{arith}
-use mathlib.Core.Path.{_≡_, ap₂, _∙_}
+use mathlib.Core.Path.{ap₂, _∙_}
 use Prim.Native.Nat.{ℕ, _+_, _*_}
 use lib.ListN.{getD}
 use Rattle.beliefs.specs.Words.{decoded}

@@ -1,10 +1,7 @@
 -- At depth 63 nothing is done; else a frame is stored above the others, and the depth is one more.
 use borrow.Author.Needs.{needs}
 use borrow.Author.Tests.{lt-ltb, le-ltb}
-use mathlib.Core.Path.{refl, ap}
-use mathlib.Core.List.{List}
-use Prim.Native.Nat.{ℕ}
-use lib.ListN.{set}
+use mathlib.Core.Path.{refl}
 use Rattle.walk.specs.State.{callIn}
 use Rattle.walk.proofs.call.Statement.{statement}
 use Rattle.walk.proofs.call.Tie as tie

@@ -1,8 +1,8 @@
 -- The loop: what the whole walk finds is what the walk over the frames left finds, after the frames looked at.
 use borrow.Author.Needs.{needs}
 use borrow.Author.Tests.{not-true, not-false}
-use mathlib.Core.Path.{_≡_, sym, ap, _∙_}
-use Prim.Native.Nat.{ℕ, _+_}
+use mathlib.Core.Path.{_≡_, sym, _∙_}
+use Prim.Native.Nat.{_+_}
 use native.Mathlib.Omega.{arith}
 use Rattle.beliefs.specs.Stack.{walk}
 use Rattle.walk.specs.State.{depth, frames, framesAt}

@@ -2,7 +2,6 @@
 use borrow.Author.Needs.{needs}
 use Rattle.walk.specs.State.{frameAt}
 use native.Mathlib.Omega.{arith}
-use mathlib.Core.Path.{_≡_}
 use Rattle.walk.proofs.Frames.{frame-past}
 use Rattle.walk.proofs.frame_at.Statement.{statement}
 use Rattle.walk.proofs.frame_at.Tie as tie
