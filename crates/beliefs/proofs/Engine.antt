@@ -1,9 +1,9 @@
--- One word, for every engine: each way out of an engine's `operate` keeps its promise. Assumes nothing.
+-- For every engine: what is exactly given serves the belief sets, and each way out of an engine's `operate` keeps its promise. Assumes nothing.
 use mathlib.Core.Path.{_≡_, refl, sym, _∙_}
 use mathlib.Core.Logic.{_≢_}
 use mathlib.Core.Bool.{Bool, true, false, cond}
 use mathlib.Core.List.{List}
-use Prim.Native.Nat.{ℕ}
+use Prim.Native.Nat.{ℕ, _+_}
 use native.Mathlib.Omega.{arith}
 use lib.Dec.{eqb}
 use borrow.Author.Tests.{ne-eqb}
@@ -15,10 +15,29 @@ use Rattle.beliefs.specs.declared.Answer.{Answer}
 use Rattle.beliefs.specs.Policy.{signers, targets, valid}
 use Rattle.beliefs.specs.Stack.{Frame}
 use Rattle.beliefs.specs.Words.{decoded}
-use Rattle.beliefs.specs.Trace.{Outcome}
-use Rattle.beliefs.specs.Engine.{inside, Moved, Serves, Serve, guarded, Answers, Operate}
+use Rattle.beliefs.specs.Trace.{Outcome, refuse, answerByte}
+use Rattle.beliefs.specs.Engine.{inside, Moved, refuseIn, Gives, Serves, Serve, guarded, Answers, Operate}
 use Rattle.beliefs.proofs.Words.{decoded-fair}
 
+-- what an engine's own definition gives mirrors what the definition's step gives, over what its state pictures
+module _ (Pictures : List ℕ → List Frame → Type 0) (counts : Bool) where
+  pub record Mirrors (m : Moved) (o : Outcome) : Type 0 where
+    pub number : m .number ≡ o .number
+    pub byte : m .byte ≡ answerByte counts o
+    pub pictures : Pictures (m .state) (o .stack)
+
+  pub refused-mirrors : (n : ℕ) (s : List ℕ) (st : List Frame) → Pictures s st → Mirrors (refuseIn n s) (refuse n st)
+  refused-mirrors n s st h = record { number = refl; byte = go counts; pictures = h }
+    where
+      go : (c : Bool) → _≡_ {A = ℕ} 0 (0 + cond c 0 0)
+      go true = refl
+      go false = refl
+
+  -- so what is exactly given serves the belief sets
+  pub serves-by : (r : Answer) (left : List ℕ) (m : Moved) (o : Outcome) → Gives r left m → Mirrors m o → Serves Pictures counts r left o
+  serves-by r left m o g h = record { number = g .number ∙ h .number; byte = g .byte ∙ h .byte; pictures = rw (g .state) (h .pictures) }
+
+-- each way out of an engine's `operate`
 module _ (Pictures : List ℕ → List Frame → Type 0) (counts fits : Bool) (act : Operation → Moved) (p s : List ℕ) (w lent : ℕ) where
   never : {A : Type 0} → true ≡ false → A
   never e = let z : _≡_ {A = ℕ} 0 1 = cc in absurd (omega arith)

@@ -1,14 +1,13 @@
 -- A frame's chains are the frames below it, so that a chain is known by its length, and a check by the lengths held. Assumes nothing.
 use mathlib.Core.Path.{_≡_, refl, sym, ap, ap₂, _∙_}
 use mathlib.Core.Bool.{Bool, true, false, _&&_, _||_, and-true, and-false}
-use mathlib.Core.List.{List, [], _∷_, _++_, map}
-use Prim.Native.Nat.{ℕ, zero, suc, _+_, _-_, _*_, _≤_, _<_, min}
+use mathlib.Core.List.{List, [], _∷_, _++_}
+use Prim.Native.Nat.{ℕ, zero, suc, _-_, _≤_}
 use native.Mathlib.Omega.{arith}
 use lib.Dec.{eqb}
 use lib.ListN.{length, getD, take, length-take, length-map}
 use lib.Seq.{take-suc}
-use borrow.Author.Tests.{eqb-true, eqb-false, eq-eqb, ne-eqb}
-use Rattle.bits.specs.Bit.{bit}
+use borrow.Author.Tests.{eqb-true}
 use Rattle.beliefs.specs.Lists.{any, all, each}
 use Rattle.beliefs.specs.Policy.{permits}
 use Rattle.beliefs.specs.Stack.{Principal, Belief, Frame, on, permitted, granted}

@@ -1,30 +1,36 @@
--- A fresh state pictures the empty stack, and every state that number 14 does not refuse pictures some stack: no promise over pictures is empty. Assumes nothing.
+-- A fresh state pictures the empty stack, and every state that number 14 lets through pictures some stack of the definition: no promise over pictures is empty. Assumes nothing.
 use mathlib.Core.Path.{_≡_, refl, sym, ap, ap₂, _∙_}
 use mathlib.Core.Bool.{Bool, true, false, cond, _&&_, _||_, and-false, and-true, and-or-distrib-left, and-or-distrib-right}
 use mathlib.Core.List.{List, [], _∷_, _++_}
 use mathlib.Core.Logic.{_≢_}
-use Prim.Native.Nat.{ℕ, zero, suc, _+_, _-_, _*_, _^_, _≤_, _<_, min}
+use Prim.Native.Nat.{ℕ, zero, suc, _+_, _*_, _^_, _≤_, _<_}
 use native.Mathlib.Decide.{decLt}
 use native.Mathlib.Omega.{arith}
 use lib.Dec.{eqb, ltb, leb}
-use lib.ListN.{length, getD, take, replicate, length-map}
+use lib.ListN.{length, getD, take, replicate, length-map, length-replicate, getD-replicate, List·getD-eq-default}
 use lib.Seq.{length-take-le}
 use borrow.Author.Tests.{lt-ltb, le-ltb, ltb-true, ltb-false, leb-true, eqb-true, eqb-false}
-use Rattle.bits.specs.Bit.{bit, below}
+use Rattle.bits.specs.Bit.{bit}
 use Rattle.bits.proofs.Laws.{bit-none, bit-high}
 use Rattle.beliefs.specs.Lists.{any, keep, each}
 use Rattle.beliefs.specs.Policy.{signers, targets}
-use Rattle.beliefs.specs.Stack.{Principal, Belief, Frame, on}
+use Rattle.beliefs.specs.Stack.{Belief, Frame}
 use Rattle.beliefs.proofs.Lists.{any-ext, any-and, any-keep, each-at}
-use Rattle.record.specs.Record.{depth, signerAt, heldAt, wordsBelow, words, frameFits, recordFits, principals, Chained, withLength, FramePictured, FramesPictured, Pictures}
+use Rattle.record.specs.Record.{depth, signerAt, heldAt, wordsBelow, words, frameFits, recordFits}
+use Rattle.record.specs.Pictures.{principals, AllFounded, withLength, FramePictured, FramesPictured, Pictures}
+use Rattle.beliefs.proofs.Policy.{both}
+use Rattle.record.proofs.Runs.{words-at}
 use Rattle.record.proofs.Chains.{at-length}
-use Rattle.record.proofs.Kept.{chained-keep}
-use Rattle.record.proofs.Served.{both}
+use Rattle.record.proofs.Kept.{founded-keep}
 
 pub fresh : (p : List ℕ) → Pictures p (replicate 4096 0) []
-fresh p = record { room = omega arith; deep = refl; frames = tt }
+fresh p = record { room = omega arith; deep = refl; frames = tt; above = λ i l. zeros i (decLt i 4096) }
+  where
+    zeros : (i : ℕ) → Dec (i < 4096) → _≡_ {A = ℕ} (getD (replicate 4096 0) i 0) 0
+    zeros i (yes h) = getD-replicate 4096 i 0 0 h
+    zeros i (no h) = List·getD-eq-default (replicate 4096 0) 0 {n = i} (omega (arith, length-replicate {A = ℕ} 4096 0))
 
--- every belief that a frame above r may hold: on each target below 64, a chain of each length up to the frames below
+-- every belief that a frame above r may hold: on each target below n, a chain of each length up to the frames below
 beliefOn : ℕ → List Frame → ℕ → Belief
 beliefOn t r k = record { chain = take k (principals r); target = t }
 
@@ -40,21 +46,22 @@ chain-length : (t k : ℕ) (r : List Frame) → k ≤ length r → length (belie
 unfolding beliefOn
 chain-length t k r h = length-take-le k (principals r) (omega (arith, length-map r (λ (f : Frame). f .principal)))
 
-chained-append : (r : List Frame) (l m : List Belief) → Chained r l → Chained r m → Chained r (l ++ m)
-chained-append r [] m h k = k
-chained-append r (b ∷ l) m h k = (h .0, chained-append r l m (h .1) k)
+module _ (p : List ℕ) (r : List Frame) where
+  founded-append : (l m : List Belief) → AllFounded p r l → AllFounded p r m → AllFounded p r (l ++ m)
+  founded-append [] m h k = k
+  founded-append (b ∷ l) m h k = (h .0, founded-append l m (h .1) k)
 
-chained-on : (t : ℕ) (r : List Frame) (n : ℕ) → n ≤ suc (length r) → Chained r (beliefsOn t r n)
-unfolding beliefsOn beliefOn
-chained-on t r zero h = tt
-chained-on t r (suc k) h = (ap (λ (n : ℕ). take n (principals r)) (sym (chain-length t k r (omega arith))), chained-on t r k (omega arith))
+  founded-on : (t n : ℕ) → t < targets p → n ≤ suc (length r) → AllFounded p r (beliefsOn t r n)
+  unfolding beliefsOn beliefOn
+  founded-on t zero l h = tt
+  founded-on t (suc k) l h = (record { target = l; chain = ap (λ (n : ℕ). take n (principals r)) (sym (chain-length t k r (omega arith))) }, founded-on t k l (omega arith))
 
-chained-every : (r : List Frame) (n : ℕ) → Chained r (everyBelief r n)
-unfolding everyBelief
-chained-every r zero = tt
-chained-every r (suc t) = chained-append r (beliefsOn t r (suc (length r))) (everyBelief r t) (chained-on t r (suc (length r)) (omega arith)) (chained-every r t)
+  founded-every : (n : ℕ) → n ≤ targets p → AllFounded p r (everyBelief r n)
+  unfolding everyBelief
+  founded-every zero l = tt
+  founded-every (suc t) l = founded-append (beliefsOn t r (suc (length r))) (everyBelief r t) (founded-on t (suc (length r)) l (omega arith)) (founded-every t (omega arith))
 
--- which targets and lengths that is
+-- which targets and lengths these have
 any-append : {A : Type 0} (f : A → Bool) (l m : List A) → any f (l ++ m) ≡ (any f l || any f m)
 any-append f [] m = refl
 any-append f (a ∷ l) m = go (f a) (any-append f l m)
@@ -71,97 +78,96 @@ one-more k n = go (eqb n k) refl (ltb k n) refl
     go false q true m = sym (lt-ltb k (suc n) (omega (arith, ltb-true k n m)))
     go false q false m = let h : n ≢ k = eqb-false n k q in sym (le-ltb k (suc n) (omega (arith, ltb-false k n m)))
 
-on-lengths : (t u k : ℕ) (r : List Frame) (n : ℕ) → n ≤ suc (length r) → any (withLength u k) (beliefsOn t r n) ≡ (eqb t u && ltb k n)
-unfolding beliefsOn beliefOn
-on-lengths t u k r zero h = sym (ap (λ (x : Bool). eqb t u && x) (le-ltb k 0 (omega arith)) ∙ and-false (eqb t u))
-on-lengths t u k r (suc n) h =
-    ap₂ (λ (x y : Bool). (eqb t u && x) || y) (ap (λ (m : ℕ). eqb m k) (chain-length t n r (omega arith))) (on-lengths t u k r n (omega arith))
-    ∙ sym (and-or-distrib-left (eqb t u) (eqb n k) (ltb k n)) ∙ ap (λ (x : Bool). eqb t u && x) (one-more k n)
+module _ (u k : ℕ) (r : List Frame) where
+  on-lengths : (t n : ℕ) → n ≤ suc (length r) → any (withLength u k) (beliefsOn t r n) ≡ (eqb t u && ltb k n)
+  unfolding beliefsOn beliefOn
+  on-lengths t zero h = sym (ap (λ (x : Bool). eqb t u && x) (le-ltb k 0 (omega arith)) ∙ and-false (eqb t u))
+  on-lengths t (suc n) h =
+      ap₂ (λ (x y : Bool). (eqb t u && x) || y) (ap (λ (m : ℕ). eqb m k) (chain-length t n r (omega arith))) (on-lengths t n (omega arith))
+      ∙ sym (and-or-distrib-left (eqb t u) (eqb n k) (ltb k n)) ∙ ap (λ (x : Bool). eqb t u && x) (one-more k n)
 
-every-lengths : (u k : ℕ) (r : List Frame) (n : ℕ) → any (withLength u k) (everyBelief r n) ≡ (ltb u n && ltb k (suc (length r)))
-unfolding everyBelief
-every-lengths u k r zero = ap (λ (x : Bool). x && ltb k (suc (length r))) (sym (le-ltb u 0 (omega arith)))
-every-lengths u k r (suc t) =
-    any-append (withLength u k) (beliefsOn t r (suc (length r))) (everyBelief r t)
-    ∙ ap₂ (λ (x y : Bool). x || y) (on-lengths t u k r (suc (length r)) (omega arith)) (every-lengths u k r t)
-    ∙ sym (and-or-distrib-right (eqb t u) (ltb u t) (ltb k (suc (length r)))) ∙ ap (λ (x : Bool). x && ltb k (suc (length r))) (one-more u t)
+  every-lengths : (n : ℕ) → any (withLength u k) (everyBelief r n) ≡ (ltb u n && ltb k (suc (length r)))
+  unfolding everyBelief
+  every-lengths zero = ap (λ (x : Bool). x && ltb k (suc (length r))) (sym (le-ltb u 0 (omega arith)))
+  every-lengths (suc t) =
+      any-append (withLength u k) (beliefsOn t r (suc (length r))) (everyBelief r t)
+      ∙ ap₂ (λ (x y : Bool). x || y) (on-lengths t (suc (length r)) (omega arith)) (every-lengths t)
+      ∙ sym (and-or-distrib-right (eqb t u) (ltb u t) (ltb k (suc (length r)))) ∙ ap (λ (x : Bool). x && ltb k (suc (length r))) (one-more u t)
 
--- no word that number 14 lets through has a length for which there are too few frames
-module _ (p s : List ℕ) (j : ℕ) (fits : frameFits p s j ≡ true) where
-  fits-words : (wordsBelow s (65 * j + 2) (words p) (j + 1) ≡ true) × (wordsBelow s (65 * j + 2 + words p) (64 - words p) 0 ≡ true)
-  unfolding frameFits
-  fits-words = both (wordsBelow s (65 * j + 2) (words p) (j + 1)) _ (both (ltb (signerAt s j) (signers p)) _ fits .1)
-
-  held-low : (t k : ℕ) → j < k → bit (heldAt s j t) k ≡ false
-  unfolding heldAt wordsBelow below
-  held-low t k l = go (ltb t 64) refl (decLt t (words p))
-    where
-      go : (e : Bool) → ltb t 64 ≡ e → Dec (t < words p) → bit (cond e (getD s (65 * j + 2 + t) 0) 0) k ≡ false
-      go false q d = bit-none k
-      go true q (yes h) =
-          bit-high (j + 1) (getD s (65 * j + 2 + t) 0) k (ltb-true _ _ (each-at (λ i. below (getD s (65 * j + 2 + i) 0) (j + 1)) (words p) (fits-words .0) t h)) (omega arith)
-      go true q (no h) =
-          let i : ℕ = t - words p in
-          let e : 65 * j + 2 + words p + i ≡ 65 * j + 2 + t = omega arith in
-          let z : below (getD s (65 * j + 2 + words p + i) 0) 0 ≡ true = each-at (λ i. below (getD s (65 * j + 2 + words p + i) 0) 0) (64 - words p) (fits-words .1) i (omega (arith, ltb-true t 64 q)) in
-          bit-high 0 (getD s (65 * j + 2 + t) 0) k (ltb-true _ _ (rw e at z)) (omega arith)
-
--- the frame above r that the words say, and the stack
-stood : List ℕ → List Frame → Frame
-stood s r = record {
+-- from the words to a stack: the frame above r that they say
+stood : List ℕ → List ℕ → List Frame → Frame
+stood p s r = record {
   principal = record { place = suc (length r); signer = signerAt s (length r) };
-  beliefs = keep (λ b. bit (heldAt s (length r) (b .target)) (length (b .chain))) (everyBelief r 64);
+  beliefs = keep (λ b. bit (heldAt s (length r) (b .target)) (length (b .chain))) (everyBelief r (words p));
   enabled = 0;
   disabled = 0;
 }
 
-stack-of : List ℕ → ℕ → List Frame
-stack-of s zero = []
-stack-of s (suc j) = stood s (stack-of s j) ∷ stack-of s j
-
-stack-high : (s : List ℕ) (j : ℕ) → length (stack-of s j) ≡ j
-unfolding stack-of
-stack-high s zero = refl
-stack-high s (suc j) = ap suc (stack-high s j)
-
-no-word : (s : List ℕ) (j t : ℕ) → ltb t 64 ≡ false → heldAt s j t ≡ 0
-unfolding heldAt
-no-word s j t h = rw h
-
-stood-lengths : (s : List ℕ) (r : List Frame) → ((t k : ℕ) → length r < k → bit (heldAt s (length r) t) k ≡ false)
-    → (t k : ℕ) → bit (heldAt s (length r) t) k ≡ any (withLength t k) (stood s r .beliefs)
-unfolding stood
-stood-lengths s r low t k =
-    let w : ℕ → ℕ → Bool = λ u n. bit (heldAt s (length r) u) n in
-    sym (any-keep (withLength t k) (λ b. w (b .target) (length (b .chain))) (everyBelief r 64)
-    ∙ any-ext (λ b. w (b .target) (length (b .chain)) && withLength t k b) (λ b. w t k && withLength t k b) (at-length w t k) (everyBelief r 64)
-    ∙ any-and (w t k) (withLength t k) (everyBelief r 64)
-    ∙ ap (λ (x : Bool). w t k && x) (every-lengths t k r 64)
-    ∙ go (ltb t 64) refl (ltb k (suc (length r))) refl)
+-- no word that fits holds a length for which there are too few frames, or is for a target at N or above
+held-low : (p s : List ℕ) (j : ℕ) → frameFits p s j ≡ true → (t k : ℕ) → (ltb t (words p) && ltb k (suc j)) ≡ false → bit (heldAt s j t) k ≡ false
+unfolding heldAt frameFits
+held-low p s j fits t k out = go (ltb t 64) refl (decLt t (words p))
   where
-    go : (x : Bool) → ltb t 64 ≡ x → (y : Bool) → ltb k (suc (length r)) ≡ y → (bit (heldAt s (length r) t) k && (x && y)) ≡ bit (heldAt s (length r) t) k
-    go true q true m = and-true (bit (heldAt s (length r) t) k)
-    go true q false m = rw (low t k (ltb-false k (suc (length r)) m))
-    go false q y m = rw (no-word s (length r) t q, bit-none k)
+    words-fit : (wordsBelow s (65 * j + 2) (65 * j + 2 + words p) (j + 1) ≡ true) × (wordsBelow s (65 * j + 2 + words p) (65 * j + 2 + 64) 0 ≡ true)
+    words-fit = both (wordsBelow s (65 * j + 2) (65 * j + 2 + words p) (j + 1)) (both (ltb (signerAt s j) (signers p)) fits .1)
 
-stood-pictured : (p s : List ℕ) (r : List Frame) → frameFits p s (length r) ≡ true → FramePictured s (stood s r) r
-unfolding stood
+    far : t < words p → suc j ≤ k
+    far h = ltb-false k (suc j) (ap (λ (x : Bool). x && ltb k (suc j)) (sym (lt-ltb t (words p) h)) ∙ out)
+
+    go : (e : Bool) → ltb t 64 ≡ e → Dec (t < words p) → bit (cond e (getD s (65 * j + 2 + t) 0) 0) k ≡ false
+    go false q d = bit-none k
+    go true q (yes h) = bit-high (j + 1) (getD s (65 * j + 2 + t) 0) k (words-at s (65 * j + 2) (65 * j + 2 + words p) (j + 1) (words-fit .0) (65 * j + 2 + t) (omega arith) (omega arith)) (omega (arith, far h))
+    go true q (no h) = bit-high 0 (getD s (65 * j + 2 + t) 0) k (words-at s (65 * j + 2 + words p) (65 * j + 2 + 64) 0 (words-fit .1) (65 * j + 2 + t) (omega arith) (omega (arith, ltb-true t 64 q))) (omega arith)
+
+absorbed : (x y : Bool) → (y ≡ false → x ≡ false) → (x && y) ≡ x
+absorbed x true h = and-true x
+absorbed x false h = rw (h refl)
+
+stood-pictured : (p s : List ℕ) (r : List Frame) → frameFits p s (length r) ≡ true → FramePictured p s (stood p s r) r
+unfolding stood frameFits
 stood-pictured p s r fits = record {
+  known = ltb-true (signerAt s (length r)) (signers p) (both (ltb (signerAt s (length r)) (signers p)) fits .0);
   signer = refl;
-  chains = chained-keep r (λ b. bit (heldAt s (length r) (b .target)) (length (b .chain))) (everyBelief r 64) (chained-every r 64);
-  lengths = stood-lengths s r (held-low p s (length r) fits);
+  founded = founded-keep p r (λ b. bit (heldAt s (length r) (b .target)) (length (b .chain))) (everyBelief r (words p)) (founded-every p r (words p) (omega arith));
+  lengths = λ t k.
+      let w : ℕ → ℕ → Bool = λ u n. bit (heldAt s (length r) u) n in
+      sym (any-keep (withLength t k) (λ b. w (b .target) (length (b .chain))) (everyBelief r (words p))
+      ∙ any-ext (λ b. w (b .target) (length (b .chain)) && withLength t k b) (λ b. w t k && withLength t k b) (at-length w t k) (everyBelief r (words p))
+      ∙ any-and (w t k) (withLength t k) (everyBelief r (words p))
+      ∙ ap (λ (x : Bool). w t k && x) (every-lengths t k r (words p))
+      ∙ absorbed (w t k) (ltb t (words p) && ltb k (suc (length r))) (held-low p s (length r) fits t k));
 }
 
-stack-pictured : (p s : List ℕ) → each (frameFits p s) (depth s) ≡ true → (n : ℕ) → n ≤ depth s → FramesPictured s (stack-of s n)
+stack-of : List ℕ → List ℕ → ℕ → List Frame
+stack-of p s zero = []
+stack-of p s (suc j) = stood p s (stack-of p s j) ∷ stack-of p s j
+
+stack-high : (p s : List ℕ) (j : ℕ) → length (stack-of p s j) ≡ j
+unfolding stack-of
+stack-high p s zero = refl
+stack-high p s (suc j) = ap suc (stack-high p s j)
+
+stack-pictured : (p s : List ℕ) → each (frameFits p s) (depth s) ≡ true → (n : ℕ) → n ≤ depth s → FramesPictured p s (stack-of p s n)
 unfolding stack-of
 stack-pictured p s fits zero h = tt
 stack-pictured p s fits (suc n) h =
-    (stood-pictured p s (stack-of s n) (rw (stack-high s n) (each-at (frameFits p s) (depth s) fits n h)), stack-pictured p s fits n (omega arith))
+    (stood-pictured p s (stack-of p s n) (rw (stack-high p s n) (each-at (frameFits p s) (depth s) fits n h)), stack-pictured p s fits n (omega arith))
 
-pub pictured : (p s : List ℕ) → recordFits p s ≡ true → (st : List Frame) × Pictures p s st
+pub pictured : (p s : List ℕ) → length s ≡ 4096 → recordFits p s ≡ true → (st : List Frame) × Pictures p s st
 unfolding recordFits
-pictured p s h =
-    let shallow : getD s 0 0 ≤ 63 = leb-true _ _ (both (leb (getD s 0 0) 63) _ h .0) in
-    let frames : each (frameFits p s) (depth s) ≡ true = both (each (frameFits p s) (depth s)) _ (both (leb (getD s 0 0) 63) _ h .1) .0 in
-    let high : length (stack-of s (depth s)) ≡ depth s = stack-high s (depth s) in
-    (stack-of s (depth s), record { room = omega arith; deep = omega arith; frames = stack-pictured p s frames (depth s) (omega arith) })
+pictured p s whole h =
+    let shallow : getD s 0 0 ≤ 63 = leb-true _ _ (both (leb (getD s 0 0) 63) h .0) in
+    let rest = both (each (frameFits p s) (depth s)) (both (leb (getD s 0 0) 63) h .1) in
+    let high : length (stack-of p s (depth s)) ≡ depth s = stack-high p s (depth s) in (
+      stack-of p s (depth s),
+      record {
+        room = omega arith;
+        deep = omega arith;
+        frames = stack-pictured p s (rest .0) (depth s) (omega arith);
+        above = λ i l. zero-above (rest .1) i (omega arith) (decLt i 4096);
+      },
+    )
+  where
+    zero-above : wordsBelow s (65 * depth s + 1) 4096 0 ≡ true → (i : ℕ) → 65 * depth s < i → Dec (i < 4096) → getD s i 0 ≡ 0
+    zero-above z i l (yes m) = let low : getD s i 0 < 2 ^ 0 = words-at s (65 * depth s + 1) 4096 0 z i (omega arith) m in omega arith
+    zero-above z i l (no m) = List·getD-eq-default s 0 (omega arith)

@@ -1,15 +1,15 @@
 -- What each operation stores pictures the stack after it: the newest frame's words say the lengths of its chains, and the words of the frames below stay. Assumes nothing.
 use mathlib.Core.Path.{_≡_, refl, sym, ap, ap₂, _∙_}
-use mathlib.Core.Bool.{Bool, true, false, cond, not, _&&_, _||_, and-true, and-false}
+use mathlib.Core.Bool.{Bool, true, false, cond, not, _&&_, _||_, and-false}
 use mathlib.Core.List.{List, [], _∷_, map}
 use mathlib.Core.Logic.{_≢_}
-use Prim.Native.Nat.{ℕ, zero, suc, _+_, _-_, _*_, _/_, _%_, _^_, _≤_, _<_, min}
+use Prim.Native.Nat.{ℕ, zero, suc, _+_, _-_, _*_, _^_, _≤_, _<_}
 use native.Mathlib.Nat.{mod-eq-of-lt, div-one, mul-mod-left}
 use native.Mathlib.Decide.{decLt}
 use native.Mathlib.Omega.{arith}
 use lib.Dec.{eqb, ltb, eqb·suc-zero, eqb·suc-suc, eqb·zero-suc}
 use lib.Pow.{shl-shr, shr-shr}
-use lib.ListN.{length, getD, set, take, length-set}
+use lib.ListN.{length, getD, set, length-set}
 use lib.Seq.{getD-set-same, getD-set-other}
 use borrow.Author.Tests.{lt-ltb, le-ltb, ltb-true, ltb-false, eq-eqb, ne-eqb, eqb-true, eqb-false}
 use Rattle.bits.specs.Bit.{bit, withBit, withoutBit}
@@ -20,7 +20,7 @@ use Rattle.beliefs.specs.Stack.{Principal, Belief, Frame, on, own, said, oks, f
 use Rattle.beliefs.proofs.Lists.{any-map, any-ext, any-and, any-never, any-keep}
 use Rattle.beliefs.proofs.Granted.{any-off, own-start}
 use Rattle.record.specs.Record.{depth, heldAt, held, filled, startTargets, startWord, longer, handed, calledIn, clearedIn, heldIn}
-use Rattle.record.specs.Pictures.{Founded, AllFounded, withLength, FramePictured, FramesPictured, Pictures}
+use Rattle.record.specs.Pictures.{AllFounded, withLength, FramePictured, FramesPictured, Pictures}
 use Rattle.record.proofs.Runs.{length-filled, filled-other, filled-at}
 use Rattle.record.proofs.Chains.{chain-short, at-length}
 

@@ -4,7 +4,6 @@ pub mod Tried
 pub mod Chains
 pub mod Kept
 pub mod Served
-pub mod Decoding
-pub mod Guarded
 pub mod Exists
+pub mod Stays
 pub mod Unique

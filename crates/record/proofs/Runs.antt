@@ -1,10 +1,9 @@
 -- What stands in a list after a run of words was stored, and what it is that no word of a run has a bit from n on. Assumes nothing.
-use mathlib.Core.Path.{_≡_, refl, sym, ap, _∙_}
-use mathlib.Core.Bool.{Bool, true, false, _&&_, and-false}
+use mathlib.Core.Path.{_≡_, refl, _∙_}
+use mathlib.Core.Bool.{Bool, true, false, _&&_}
 use mathlib.Core.List.{List}
 use mathlib.Core.Logic.{_≢_}
 use Prim.Native.Nat.{ℕ, zero, suc, _+_, _-_, _*_, _^_, _≤_, _<_}
-use native.Mathlib.Nat.{le-trans, le-add-right}
 use native.Mathlib.Numerals.{add-one}
 use native.Mathlib.Decide.{decLt}
 use native.Mathlib.Omega.{arith}
@@ -13,9 +12,10 @@ use lib.Bits.{bitOr, or-lt, or-add-and, and-le-l, and-le-r}
 use lib.Pow.{pow-pos}
 use lib.ListN.{length, getD, set, length-set}
 use lib.Seq.{getD-set-same, getD-set-other}
-use borrow.Author.Tests.{lt-ltb, le-ltb, eq-eqb, ne-eqb, eqb-true, eqb-false}
+use borrow.Author.Tests.{lt-ltb, le-ltb, ltb-true, eq-eqb, ne-eqb, eqb-true, eqb-false}
 use Rattle.bits.specs.Bit.{below}
 use Rattle.beliefs.specs.Lists.{each}
+use Rattle.beliefs.proofs.Lists.{each-at, each-of}
 use Rattle.record.specs.Record.{depth, heldAt, held, filled, startWord, longer, handed, wordsBelow}
 
 module _ (at : ℕ) (w : ℕ → ℕ) (s : List ℕ) where
@@ -104,3 +104,15 @@ module _ (s : List ℕ) (from n : ℕ) where
       let up : i + 1 - from ≡ suc (i - from) = omega arith in
       let at : from + (i - from) ≡ i = omega arith in
       rw (up, ← h, at) (below-or together (getD s i 0) n)
+
+-- one by one
+module _ (s : List ℕ) (from to n : ℕ) where
+  pub words-at : wordsBelow s from to n ≡ true → (i : ℕ) → from ≤ i → i < to → getD s i 0 < 2 ^ n
+  unfolding wordsBelow below
+  words-at h i l m =
+      let e : from + (i - from) ≡ i = omega arith in
+      rw e at (ltb-true _ (2 ^ n) (each-at (λ i. below (getD s (from + i) 0) n) (to - from) h (i - from) (omega arith)))
+
+  pub words-all : ((i : ℕ) → from ≤ i → i < to → getD s i 0 < 2 ^ n) → wordsBelow s from to n ≡ true
+  unfolding wordsBelow below
+  words-all h = each-of (λ i. below (getD s (from + i) 0) n) (to - from) (λ i l. lt-ltb (getD s (from + i) 0) (2 ^ n) (h (from + i) (omega arith) (omega arith)))

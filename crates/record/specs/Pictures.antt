@@ -1,18 +1,15 @@
--- When a state pictures a stack of the definition, and what an operation word promises over that.
+-- When a state pictures a stack of the definition.
 use mathlib.Core.Path.{_≡_}
-use mathlib.Core.Bool.{Bool, true, false, cond, _&&_}
+use mathlib.Core.Bool.{Bool, _&&_}
 use mathlib.Core.List.{List, [], _∷_, map}
 use Prim.Native.Nat.{ℕ, _*_, _≤_, _<_}
 use lib.Dec.{eqb}
 use lib.ListN.{length, getD, take}
 use Rattle.bits.specs.Bit.{bit}
 use Rattle.beliefs.specs.Lists.{any}
-use Rattle.beliefs.specs.Policy.{signers, targets, valid}
+use Rattle.beliefs.specs.Policy.{signers, targets}
 use Rattle.beliefs.specs.Stack.{Principal, Belief, Frame, on}
-use Rattle.beliefs.specs.Words.{decoded}
-use Rattle.beliefs.specs.Trace.{Outcome, answerByte, served}
-use Rattle.beliefs.specs.Engine.{guarded, Operated}
-use Rattle.record.specs.Record.{signerAt, heldAt, recordFits, stepIn}
+use Rattle.record.specs.Record.{signerAt, heldAt}
 
 abbrev pub principals : List Frame → List Principal
 principals st = map (λ (f : Frame). f .principal) st
@@ -47,15 +44,3 @@ pub record Pictures (p s : List ℕ) (st : List Frame) : Type 0 where
   pub deep : getD s 0 0 ≡ length st
   pub frames : FramesPictured p s st
   pub above : (i : ℕ) → 65 * length st < i → getD s i 0 ≡ 0
-
--- an operation word against the belief sets: the number, the answer byte where it is accepted, and the picture
-pub record WordServed (p : List ℕ) (n lent byte : ℕ) (left : List ℕ) (o : Outcome) : Type 0 where
-  pub number : n ≡ o .number
-  pub answer : byte ≡ cond (eqb (o .number) 0) (answerByte false o) lent
-  pub pictures : Pictures p left (o .stack)
-
--- an operation word: exactly; and past 13 and 14 against the belief sets of any stack that the state pictures
-pub record Operate (p s : List ℕ) (word n lent byte : ℕ) (left : List ℕ) : Type 0 where
-  pub exact : Operated n lent byte left (guarded (recordFits p s) (λ op. stepIn p op s) p word s)
-  pub serves : valid p ≡ true → recordFits p s ≡ true → (st : List Frame) → Pictures p s st
-      → WordServed p n lent byte left (served p (decoded (signers p) (targets p) word 0) st)

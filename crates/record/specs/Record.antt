@@ -42,7 +42,7 @@ words p = min (targets p) 64
 unfoldable pub frameFits : List ℕ → List ℕ → ℕ → Bool
 frameFits p s j =
     ltb (signerAt s j) (signers p)
-    && (wordsBelow s (65 * j + 2) (65 * j + 2 + words p) (j + 1) && wordsBelow s (65 * j + 2 + words p) (65 * j + 66) 0)
+    && (wordsBelow s (65 * j + 2) (65 * j + 2 + words p) (j + 1) && wordsBelow s (65 * j + 2 + words p) (65 * j + 2 + 64) 0)
 
 -- depth not over 63, every frame as it should be, nothing but zero in room above the depth
 unfoldable pub recordFits : List ℕ → List ℕ → Bool
@@ -103,10 +103,10 @@ unfoldable pub checkIn : List ℕ → ℕ → List ℕ → Moved
 checkIn p t s = cond (eqb (depth s) 0) (refuseIn noFrame s) (record { number = 0; byte = cond (grantedIn p t s) 64 128; state = s })
 
 -- enable adds length 0, disable removes every length, revert removes length 0
-abbrev pub stepIn : List ℕ → Operation → List ℕ → Moved
-stepIn p (Call g) s = callIn p g s
-stepIn p Return s = returnIn s
-stepIn p (Enable t) s = holdIn t (withBit (held s t) 0) s
-stepIn p (Disable t) s = holdIn t 0 s
-stepIn p (Revert t) s = holdIn t (withoutBit (held s t) 0) s
-stepIn p (Check t) s = checkIn p t s
+abbrev pub stepIn : List ℕ → List ℕ → Operation → Moved
+stepIn p s (Call g) = callIn p g s
+stepIn p s Return = returnIn s
+stepIn p s (Enable t) = holdIn t (withBit (held s t) 0) s
+stepIn p s (Disable t) = holdIn t 0 s
+stepIn p s (Revert t) = holdIn t (withoutBit (held s t) 0) s
+stepIn p s (Check t) = checkIn p t s

@@ -4,9 +4,9 @@ ghost use mathlib.Core.Bool.{cond, false};
 ghost use Prim.Native.Nat.{_+_, _-_, _*_, _≤_, _<_};
 ghost use lib.Dec.{ltb};
 ghost use Rattle.beliefs.specs.Lists.{each};
-ghost use Rattle.beliefs.specs.Engine.{Gives, Serve};
+ghost use Rattle.beliefs.specs.Engine.{Gives, Serve, Operate};
 ghost use Rattle.record.specs.Record.{depth, signerAt, held, wordsBelow, words, frameFits, recordFits, filled, startTargets, startWord, longer, handed, callIn, clearedIn, returnIn, holdIn, grantedIn, checkIn, stepIn};
-ghost use Rattle.record.specs.Pictures.{Pictures, Operate};
+ghost use Rattle.record.specs.Pictures.{Pictures};
 use beliefs::Answer;
 use beliefs::Decoded;
 use beliefs::Operation;
@@ -14,8 +14,10 @@ use beliefs::Operation;
 // The most frames that there are.
 const FRAMES: u64 = 63;
 
-// The words of a frame: its signer, then one for each of 64 targets.
-const FRAME: u64 = 65;
+// The targets that a frame has a word for, and its words: the signer comes first.
+const TARGETS: usize = 64;
+
+const FRAME: usize = 65;
 
 // The answer bytes: this engine counts no frames.
 const DONE: u8 = 0;
@@ -24,6 +26,7 @@ const GRANTED: u8 = 64;
 
 const FORBIDDEN: u8 = 128;
 
+// The answer to an operation that is refused, and to one that is accepted.
 fn refused(number: u8) -> Answer
     ensures { λ r. ⌜ (r .number ≡ number) × (r .byte ≡ 0) ⌝ }
 {
@@ -60,18 +63,18 @@ fn signer(state: &[u64; 4096], frame: u64) -> u64
     requires { ⌜ frame < 63 ⌝ }
     ensures { λ r. ⌜ r ≡ signerAt (now (state .entry)) frame ⌝ }
 {
-    state[(FRAME * frame) as usize + 1]
+    state[FRAME * frame as usize + 1]
 }
 
 // The chain lengths that the newest frame holds on a target, a bit for each: none on a target over 63.
 fn held(state: &[u64; 4096], target: u8) -> u64
     ensures { λ r. ⌜ r ≡ held (now (state .entry)) target ⌝ }
 {
-    if 64 <= target {
+    if TARGETS <= target as usize {
         return 0;
     }
-    let at = (FRAME * newest(state)) as usize;
-    state[at + 2 + target as usize]
+    let first = FRAME * newest(state) as usize + 2;
+    state[first + target as usize]
 }
 
 // Whether the words from one index up to another hold no length of n or above. One test of their bits together is
@@ -94,7 +97,7 @@ fn words(policy: &[u64; 35]) -> usize
     ensures { λ r. ⌜ r ≡ words (now (policy .entry)) ⌝ }
 {
     let n = policy::targets(policy);
-    if n < 64 { n as usize } else { 64 }
+    if n < 64 { n as usize } else { TARGETS }
 }
 
 // Whether a frame, by how many are below it, is as number 14 asks.
@@ -105,14 +108,15 @@ fn frame_fits(policy: &[u64; 35], state: &[u64; 4096], frame: u64) -> bool
     if policy::signers(policy) <= signer(state, frame) {
         return false;
     }
-    let at = (FRAME * frame) as usize;
-    let outside = at + 2 + words(policy);
-    if !words_below(state, at + 2, outside, frame + 1) {
+    let first = FRAME * frame as usize + 2;
+    let outside = first + words(policy);
+    if !words_below(state, first, outside, frame + 1) {
         return false;
     }
-    words_below(state, outside, at + 66, 0)
+    words_below(state, outside, first + TARGETS, 0)
 }
 
+// Whether every frame is.
 fn frames_fit(policy: &[u64; 35], state: &[u64; 4096]) -> bool
     ensures { λ r. ⌜ r ≡ each (frameFits (now (policy .entry)) (now (state .entry))) (depth (now (state .entry))) ⌝ }
 {
@@ -137,7 +141,7 @@ pub fn valid(policy: &[u64; 35], state: &[u64; 4096]) -> bool
     if !frames_fit(policy, state) {
         return false;
     }
-    let above = (FRAME * depth(state)) as usize + 1;
+    let above = FRAME * depth(state) as usize + 1;
     words_below(state, above, 4096, 0)
 }
 
@@ -165,7 +169,7 @@ fn start(policy: &[u64; 35], state: &mut [u64; 4096])
 {
     let n = start_targets(policy);
     let mut t: usize = 0;
-    while t < 64 {
+    while t < TARGETS {
         state[2 + t] = start_word(t as u64, n);
         t += 1;
     }
@@ -176,14 +180,15 @@ fn hand_down(state: &mut [u64; 4096])
     requires { ⌜ (0 < depth (now state)) × (depth (now state) < 63) ⌝ }
     ensures { λ _. ⌜ now (state .exit) ≡ filled (65 * depth (now (state .entry)) + 2) (λ t. longer (held (now (state .entry)) t)) 64 (now (state .entry)) ⌝ }
 {
-    let from = (FRAME * newest(state)) as usize + 2;
+    let from = FRAME * newest(state) as usize + 2;
     let mut t: usize = 0;
-    while t < 64 {
-        state[from + 65 + t] = state[from + t] << 1;
+    while t < TARGETS {
+        state[from + FRAME + t] = state[from + t] << 1;
         t += 1;
     }
 }
 
+// The words with which a new frame begins.
 fn begin(policy: &[u64; 35], state: &mut [u64; 4096])
     requires { ⌜ depth (now state) < 63 ⌝ }
     ensures { λ _. ⌜ now (state .exit) ≡ filled (65 * depth (now (state .entry)) + 2) (handed (now (policy .entry)) (now (state .entry))) 64 (now (state .entry)) ⌝ }
@@ -195,6 +200,7 @@ fn begin(policy: &[u64; 35], state: &mut [u64; 4096])
     }
 }
 
+// Call: the new frame's words, its signer, and the depth is one more.
 fn call(policy: &[u64; 35], state: &mut [u64; 4096], signer: u8) -> Answer
     ensures { λ r. ⌜ Gives r (now (state .exit)) (callIn (now (policy .entry)) signer (now (state .entry))) ⌝ }
 {
@@ -203,7 +209,7 @@ fn call(policy: &[u64; 35], state: &mut [u64; 4096], signer: u8) -> Answer
         return refused(beliefs::TOO_DEEP);
     }
     begin(policy, state);
-    state[(FRAME * d) as usize + 1] = signer as u64;
+    state[FRAME * d as usize + 1] = signer as u64;
     state[0] = d + 1;
     answered(DONE)
 }
@@ -212,14 +218,15 @@ fn call(policy: &[u64; 35], state: &mut [u64; 4096], signer: u8) -> Answer
 fn clear(state: &mut [u64; 4096])
     ensures { λ _. ⌜ now (state .exit) ≡ clearedIn (now (state .entry)) ⌝ }
 {
-    let at = (FRAME * newest(state)) as usize + 1;
+    let at = FRAME * newest(state) as usize + 1;
     let mut i: usize = 0;
-    while i < 65 {
+    while i < FRAME {
         state[at + i] = 0;
         i += 1;
     }
 }
 
+// Return: the newest frame goes.
 fn leave(state: &mut [u64; 4096]) -> Answer
     ensures { λ r. ⌜ Gives r (now (state .exit)) (returnIn (now (state .entry))) ⌝ }
 {
@@ -232,18 +239,18 @@ fn leave(state: &mut [u64; 4096]) -> Answer
     answered(DONE)
 }
 
-// The newest frame's word for a target becomes another.
+// Enable, disable or revert: the newest frame's word for a target becomes another.
 fn hold(state: &mut [u64; 4096], target: u8, word: u64) -> Answer
     ensures { λ r. ⌜ Gives r (now (state .exit)) (holdIn target word (now (state .entry))) ⌝ }
 {
     if depth(state) == 0 {
         return refused(beliefs::NO_FRAME);
     }
-    if 64 <= target {
+    if TARGETS <= target as usize {
         return answered(DONE);
     }
-    let at = (FRAME * newest(state)) as usize;
-    state[at + 2 + target as usize] = word;
+    let first = FRAME * newest(state) as usize + 2;
+    state[first + target as usize] = word;
     answered(DONE)
 }
 
@@ -267,6 +274,7 @@ fn granted(policy: &[u64; 35], state: &[u64; 4096], target: u8) -> bool
     false
 }
 
+// Check, by the newest frame.
 fn check(policy: &[u64; 35], state: &[u64; 4096], target: u8) -> Answer
     ensures { λ r. ⌜ Gives r (now (state .entry)) (checkIn (now (policy .entry)) target (now (state .entry))) ⌝ }
 {
@@ -282,8 +290,9 @@ fn check(policy: &[u64; 35], state: &[u64; 4096], target: u8) -> Answer
 
 // One operation that the caller has decoded, refused by 7 or 8.
 pub fn serve(policy: &[u64; 35], state: &mut [u64; 4096], op: Operation) -> Answer
-    ensures { λ r. ⌜ Serve (Pictures (now (policy .entry))) false (now (policy .entry)) (now (state .entry)) op r (now (state .exit)) (stepIn (now (policy .entry)) op (now (state .entry))) ⌝ }
+    ensures { λ r. ⌜ Serve (Pictures (now (policy .entry))) false (now (policy .entry)) (now (state .entry)) op r (now (state .exit)) (stepIn (now (policy .entry)) (now (state .entry)) op) ⌝ }
 {
+    // A slice shows the proof its length; an array behind a reference does not.
     let whole: &[u64] = state;
     match op {
         Operation::Call(s) => call(policy, state, s),
@@ -297,7 +306,7 @@ pub fn serve(policy: &[u64; 35], state: &mut [u64; 4096], op: Operation) -> Answ
 
 // One operation word, refused by 13, 14, 4, 3, 5 or 6, 7, 8; the answer byte is written where it is accepted.
 pub fn operate(policy: &[u64; 35], state: &mut [u64; 4096], word: u16, answer: &mut u8) -> u8
-    ensures { λ r. ⌜ Operate (now (policy .entry)) (now (state .entry)) word r (now (answer .entry)) (now (answer .exit)) (now (state .exit)) ⌝ }
+    ensures { λ r. ⌜ Operate (Pictures (now (policy .entry))) false (recordFits (now (policy .entry)) (now (state .entry))) (stepIn (now (policy .entry)) (now (state .entry))) (now (policy .entry)) (now (state .entry)) word r (now (answer .entry)) (now (answer .exit)) (now (state .exit)) ⌝ }
 {
     if !policy::valid(policy) {
         return beliefs::BAD_POLICY;
@@ -310,10 +319,9 @@ pub fn operate(policy: &[u64; 35], state: &mut [u64; 4096], word: u16, answer: &
         return beliefs::number(decoded);
     };
     let op = w.op;
-    let a = serve(policy, state, op);
-    if a.number != beliefs::ACCEPTED {
-        return a.number;
+    let done = serve(policy, state, op);
+    if done.number == beliefs::ACCEPTED {
+        *answer = done.byte;
     }
-    *answer = a.byte;
-    beliefs::ACCEPTED
+    done.number
 }

@@ -91,6 +91,53 @@ pub fn walk_run(policy: &[u64; 35], trace: &[u8], answers: &mut [u8]) -> Report
     walk_words(policy, trace, answers)
 }
 
+// The words of a trace by the belief record, up to the first that is refused.
+fn record_words(policy: &[u64; 35], trace: &[u8], answers: &mut [u8]) -> Report
+    requires { ⌜ barred (now policy) (length (now trace)) (length (now answers)) ≡ 0 ⌝ }
+    ensures { λ r. ⌜ Stopped false (now (policy .entry)) (now (trace .entry)) (now (answers .entry)) [] 0 (r .figure) (r .number) (now (answers .exit)) ⌝ }
+{
+    let words = trace.len() / 2;
+    let mut state = [0u64; 4096];
+    let mut i: usize = 0;
+    while i < words {
+        let decoded = decode_at(policy, trace, i);
+        let Decoded::Word(w) = decoded else {
+            return Report {
+                number: beliefs::number(decoded),
+                figure: i as u64,
+            };
+        };
+        let op = w.op;
+        let kept = record::serve(policy, &mut state, op);
+        if kept.number != beliefs::ACCEPTED {
+            return Report {
+                number: kept.number,
+                figure: i as u64,
+            };
+        }
+        answers[i] = kept.byte;
+        i += 1;
+    }
+    Report {
+        number: beliefs::ACCEPTED,
+        figure: i as u64,
+    }
+}
+
+// A run by the belief record: 13, 1, 9, then word by word.
+pub fn record_run(policy: &[u64; 35], trace: &[u8], answers: &mut [u8]) -> Report
+    ensures { λ r. ⌜ Reports r (now (answers .entry)) (now (answers .exit)) (run false (now (policy .entry)) (now (trace .entry)) (length (now (answers .entry)))) ⌝ }
+{
+    let refused = barred_by(policy, trace.len(), answers.len());
+    if refused != beliefs::ACCEPTED {
+        return Report {
+            number: refused,
+            figure: 0,
+        };
+    }
+    record_words(policy, trace, answers)
+}
+
 // Where a frame's run was left: past its return, at the trace's end, or at a refused word.
 pub struct Left {
     pub at: usize,

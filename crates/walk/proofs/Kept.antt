@@ -12,10 +12,11 @@ use Rattle.beliefs.specs.declared.Answer.{Answer}
 use Rattle.beliefs.specs.declared.Marked.{Marked}
 use Rattle.beliefs.specs.declared.Operation.{Operation}
 use Rattle.beliefs.specs.declared.Operation.the-variants.{Call, Return, Enable, Disable, Revert, Check}
-use Rattle.beliefs.specs.Policy.{targets, valid}
+use Rattle.beliefs.specs.Policy.{targets}
 use Rattle.beliefs.specs.Stack.{Frame, nobody, marked, granted, walk, called, enable, disable, revert}
-use Rattle.beliefs.specs.Trace.{Outcome, answerByte, refuse, done, byNewest, checked, step}
-use Rattle.beliefs.specs.Engine.{inside, Moved, refuseIn, doneIn, Gives, Serves, Serve}
+use Rattle.beliefs.specs.Trace.{Outcome, refuse, done, byNewest, checked, step}
+use Rattle.beliefs.specs.Engine.{inside, Moved, refuseIn, doneIn, Gives, Serve}
+use Rattle.beliefs.proofs.Engine.{Mirrors, refused-mirrors, serves-by}
 use Rattle.beliefs.proofs.Policy.{Ranges, ranges}
 use Rattle.walk.specs.State.{depth, frameAt, framesAt, frames, put, remarked, markIn, newFrame, callIn, returnIn, checkIn, stepIn}
 use Rattle.walk.specs.Coherent.{Sound, Pictures}
@@ -114,36 +115,31 @@ module _ (p s : List ℕ) (long : length s ≡ 190) (ok : Ranges p) where
   seen : (t : ℕ) (st : List Frame) → Pictures p s st → walk p t (frames s) ≡ record { granted = granted p t st; looked = walk p t (map marked st) .looked }
   seen t st h = ap (walk p t) (h .same) ∙ λ i. record { granted = sym (agree p t st (h .coherent)) i; looked = walk p t (map marked st) .looked }
 
-  pub record Mirrors (m : Moved) (o : Outcome) : Type 0 where
-    pub number : m .number ≡ o .number
-    pub byte : m .byte ≡ answerByte true o
-    pub pictures : Pictures p (m .state) (o .stack)
-
-  refused : (n : ℕ) (st : List Frame) → Pictures p s st → Mirrors (refuseIn n s) (refuse n st)
-  refused n st h = record { number = refl; byte = refl; pictures = h }
+  refused : (n : ℕ) (st : List Frame) → Pictures p s st → Mirrors (Pictures p) true (refuseIn n s) (refuse n st)
+  refused n st h = refused-mirrors (Pictures p) true n s st h
 
   -- no frame: 7
-  none : (a : Moved) → Pictures p s [] → Mirrors (cond (eqb (depth s) 0) (refuseIn 7 s) a) (refuse 7 [])
+  none : (a : Moved) → Pictures p s [] → Mirrors (Pictures p) true (cond (eqb (depth s) 0) (refuseIn 7 s) a) (refuse 7 [])
   none a h = rw (eq-eqb (depth s) 0 (high p s [] h)) (refused 7 [] h)
 
-  some : (a : Moved) (f : Frame) (r : List Frame) (o : Outcome) → Pictures p s (f ∷ r) → Mirrors a o → Mirrors (cond (eqb (depth s) 0) (refuseIn 7 s) a) o
+  some : (a : Moved) (f : Frame) (r : List Frame) (o : Outcome) → Pictures p s (f ∷ r) → Mirrors (Pictures p) true a o → Mirrors (Pictures p) true (cond (eqb (depth s) 0) (refuseIn 7 s) a) o
   some a f r o h k = let e : depth s ≡ suc (length r) = high p s (f ∷ r) h in rw (ne-eqb (depth s) 0 (omega arith)) k
 
   marks : (op : Operation) (g : Frame → Frame) → ((f : Frame) → remarked op (marked f) ≡ marked (g f)) → ((f : Frame) (r : List Frame) → Sound p f r → Sound p (g f) r)
-      → (st : List Frame) → Pictures p s st → Mirrors (markIn op s) (byNewest g st)
+      → (st : List Frame) → Pictures p s st → Mirrors (Pictures p) true (markIn op s) (byNewest g st)
   unfolding markIn
   marks op g e k [] h = none _ h
   marks op g e k (f ∷ r) h = some _ f r (done (g f ∷ r)) h (record { number = refl; byte = refl; pictures = mark-kept op f (g f) r (e f) (k f r (h .coherent .0)) h })
 
   called-in : (g : ℕ) (st : List Frame) (e : Bool) → ltb (length st) 63 ≡ e → Pictures p s st
-      → Mirrors (cond e (doneIn (set (put s (depth s) (newFrame p g (depth s))) 0 (depth s + 1))) (refuseIn 8 s)) (cond e (done (called p g st ∷ st)) (refuse 8 st))
+      → Mirrors (Pictures p) true (cond e (doneIn (set (put s (depth s) (newFrame p g (depth s))) 0 (depth s + 1))) (refuseIn 8 s)) (cond e (done (called p g st ∷ st)) (refuse 8 st))
   called-in g st true q h = record { number = refl; byte = refl; pictures = call-kept g st h (ltb-true _ _ q) }
   called-in g st false q h = refused 8 st h
 
   few : (t : ℕ) → ltb t (targets p) ≡ true → t < 64
   few t h = omega (arith, ltb-true t (targets p) h, ok .targets-most)
 
-  pub simulate : (op : Operation) → inside p op ≡ true → (st : List Frame) → Pictures p s st → Mirrors (stepIn p s op) (step p op st)
+  pub simulate : (op : Operation) → inside p op ≡ true → (st : List Frame) → Pictures p s st → Mirrors (Pictures p) true (stepIn p s op) (step p op st)
   unfolding step callIn returnIn checkIn enable disable revert
   simulate (Call g) i st h = rw (ap (λ (n : ℕ). ltb n 63) (high p s st h)) (called-in g st (ltb (length st) 63) refl h)
   simulate Return i [] h = none _ h
@@ -160,7 +156,4 @@ module _ (p s : List ℕ) (long : length s ≡ 190) (ok : Ranges p) where
 
 -- what is exactly given serves the belief sets
 pub served : (p s : List ℕ) → length s ≡ 190 → (op : Operation) (r : Answer) (left : List ℕ) → Gives r left (stepIn p s op) → Serve (Pictures p) true p s op r left (stepIn p s op)
-served p s long op r left g = record { gives = g; serves = λ v i st h. serves v i st (simulate p s long (ranges p v) op i st h) }
-  where
-    serves : (v : valid p ≡ true) → inside p op ≡ true → (st : List Frame) → Mirrors p s long (ranges p v) (stepIn p s op) (step p op st) → Serves (Pictures p) true r left (step p op st)
-    serves v i st m = record { number = g .number ∙ m .number; byte = g .byte ∙ m .byte; pictures = rw (g .state) (m .pictures) }
+served p s long op r left g = record { gives = g; serves = λ v i st h. serves-by (Pictures p) true r left _ _ g (simulate p s long (ranges p v) op i st h) }

@@ -1,6 +1,6 @@
 -- What a frame begins with at depth 0, and above a caller.
 use borrow.Author.Needs.{needs}
-use mathlib.Core.Path.{_≡_, sym, _∙_}
+use mathlib.Core.Path.{sym, _∙_}
 use Rattle.record.proofs.Runs.{handed-first, handed-down}
 use Rattle.record.proofs.begin.Statement.{statement}
 use Rattle.record.proofs.begin.Tie as tie

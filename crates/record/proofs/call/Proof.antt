@@ -1,12 +1,13 @@
 -- The new frame's words, its signer, and then the depth is one more.
 use borrow.Author.Needs.{needs}
 use borrow.Author.Tests.{lt-ltb, le-ltb}
-use mathlib.Core.Path.{_≡_, refl, ap₂, _∙_}
+use mathlib.Core.Path.{refl, ap₂}
 use mathlib.Core.List.{List}
 use Prim.Native.Nat.{ℕ, _+_, _*_}
 use native.Mathlib.Omega.{arith}
 use lib.ListN.{set}
 use Rattle.record.specs.Record.{depth, callIn}
+use Rattle.record.proofs.Served.{gives}
 use Rattle.record.proofs.call.Statement.{statement}
 use Rattle.record.proofs.call.Tie as tie
 
@@ -18,7 +19,7 @@ refused-requires c κs = search needs
 
 returns : tie.Need-returns
 unfolding callIn
-returns c = rw (← c .before .before .depth .ensures, le-ltb _ 63 (c .before .if1 .taken)) (record { number = c .refused .ensures .0; byte = c .refused .ensures .1; state = refl })
+returns c = rw (← c .before .before .depth .ensures, le-ltb _ 63 (c .before .if1 .taken)) (gives (c .refused .ensures) refl)
 
 begin-requires : tie.Need-begin-requires
 begin-requires c κs = search needs
@@ -50,7 +51,7 @@ returns-2 c =
     let s : List ℕ = c .before .before .before .before .before .before .args .state .now in
     let g : ℕ = c .before .before .before .before .before .before .args .signer in
     rw (lt-ltb (depth s) 63 (omega arith))
-    (record { number = c .answered .ensures .0; byte = c .answered .ensures .1; state = ap₂ (λ (l : List ℕ) (d : ℕ). set (set l (65 * d + 1) g) 0 (d + 1)) (c .before .begin .ensures) (c .before .before .before .before .depth .ensures) })
+    (gives (c .answered .ensures) (ap₂ (λ (l : List ℕ) (d : ℕ). set (set l (65 * d + 1) g) 0 (d + 1)) (c .before .begin .ensures) (c .before .before .before .before .depth .ensures)))
 
 pub call-spec : {M : Type 1} → statement M
 call-spec =

@@ -3,6 +3,7 @@ use borrow.Author.Needs.{needs}
 use borrow.Author.Tests.{eq-eqb, ne-eqb}
 use mathlib.Core.Path.{refl}
 use Rattle.record.specs.Record.{checkIn}
+use Rattle.record.proofs.Served.{gives}
 use Rattle.record.proofs.check.Statement.{statement}
 use Rattle.record.proofs.check.Tie as tie
 
@@ -14,7 +15,7 @@ refused-requires c κs = search needs
 
 returns : tie.Need-returns
 unfolding checkIn
-returns c = rw (← c .before .before .depth .ensures, eq-eqb _ _ (c .before .if1 .taken)) (record { number = c .refused .ensures .0; byte = c .refused .ensures .1; state = refl })
+returns c = rw (← c .before .before .depth .ensures, eq-eqb _ _ (c .before .if1 .taken)) (gives (c .refused .ensures) refl)
 
 granted-requires : tie.Need-granted-requires
 granted-requires c κs = search needs
@@ -27,11 +28,11 @@ answered-requires-2 c κs = search needs
 
 returns-2 : tie.Need-returns-2
 unfolding checkIn
-returns-2 c = rw (← c .before .before .before .before .depth .ensures, ne-eqb _ _ (c .before .before .before .if1 .left), ← c .before .before .granted .ensures, c .before .if2 .taken) (record { number = c .answered .ensures .0; byte = c .answered .ensures .1; state = refl })
+returns-2 c = rw (← c .before .before .before .before .depth .ensures, ne-eqb _ _ (c .before .before .before .if1 .left), ← c .before .before .granted .ensures, c .before .if2 .taken) (gives (c .answered .ensures) refl)
 
 returns-3 : tie.Need-returns-3
 unfolding checkIn
-returns-3 c = rw (← c .before .before .before .before .depth .ensures, ne-eqb _ _ (c .before .before .before .if1 .left), ← c .before .before .granted .ensures, c .before .if2 .left) (record { number = c .answered2 .ensures .0; byte = c .answered2 .ensures .1; state = refl })
+returns-3 c = rw (← c .before .before .before .before .depth .ensures, ne-eqb _ _ (c .before .before .before .if1 .left), ← c .before .before .granted .ensures, c .before .if2 .left) (gives (c .answered2 .ensures) refl)
 
 pub check-spec : {M : Type 1} → statement M
 check-spec =

@@ -1,8 +1,7 @@
 -- After i turns the first i words from the frame's signer on are zero.
 use borrow.Author.Needs.{needs}
-use mathlib.Core.Path.{_≡_, refl, sym, ap, _∙_}
-use mathlib.Core.List.{List}
-use Prim.Native.Nat.{ℕ, _+_, _-_, _*_, _≤_}
+use mathlib.Core.Path.{_≡_, refl, sym}
+use Prim.Native.Nat.{_-_, _≤_}
 use native.Mathlib.Omega.{arith}
 use Rattle.record.specs.Record.{filled}
 use Rattle.record.proofs.Runs.{filled-none, filled-more}

@@ -2,13 +2,14 @@
 use borrow.Author.Needs.{needs}
 use borrow.Author.Tests.{not-true, not-false}
 use borrow.Author.Count.{below-more}
-use mathlib.Core.Path.{_≡_, refl, sym, ap, _∙_}
+use mathlib.Core.Path.{_≡_, sym, _∙_}
 use mathlib.Core.Bool.{true, false}
 use Prim.Native.Nat.{ℕ, _-_, _≤_, _<_}
 use native.Mathlib.Omega.{arith}
 use Rattle.bits.specs.Bit.{bit}
+use Rattle.beliefs.specs.Policy.{permits}
 use Rattle.beliefs.proofs.Lists.{each-none, each-more}
-use Rattle.record.specs.Record.{newestPermitted, held, depth}
+use Rattle.record.specs.Record.{depth, signerAt, held, newestPermitted}
 use Rattle.record.proofs.Tried.{tried-barred, tried-found, tried-none}
 use Rattle.record.proofs.granted.Statement.{statement}
 use Rattle.record.proofs.granted.Tie as tie
@@ -18,6 +19,17 @@ Inv-loop policy state target d lengths k₀ k = (k ≤ d) × ((newestPermitted p
 
 abbrev μ-loop : tie.MeasureT-loop
 μ-loop policy state target d lengths k₀ k = d - k
+
+-- what the two callees say of the frame and the length that are tried
+is-permitted : (c : tie.After-permits Inv-loop μ-loop)
+    → c .permits .result
+    ≡ permits (c .before .before .before .before .before .before .args .policy .now) (signerAt (c .before .before .before .before .before .before .args .state .now) (depth (c .before .before .before .before .before .before .args .state .now) - 1 - c .before .before .before .loop .k)) (c .before .before .before .before .before .before .args .target)
+is-permitted c = rw (← c .before .before .before .before .before .depth .ensures, ← c .before .signer .ensures) (c .permits .ensures)
+
+is-held : (c : tie.After-has Inv-loop μ-loop)
+    → c .has .result
+    ≡ bit (held (c .before .before .before .before .before .before .before .before .args .state .now) (c .before .before .before .before .before .before .before .before .args .target)) (c .before .before .before .before .before .loop .k)
+is-held c = rw (← c .before .before .before .before .before .before .held .ensures) (c .has .ensures)
 
 depth-requires : tie.Need-depth-requires Inv-loop μ-loop
 depth-requires c κs = search needs
@@ -41,7 +53,7 @@ permits-requires : tie.Need-permits-requires Inv-loop μ-loop
 permits-requires c κs = search needs
 
 returns : tie.Need-returns Inv-loop μ-loop
-returns c = sym (tried-barred _ _ _ _ (c .before .before .before .before .loop .inv .1 .1) (rw (← c .before .before .before .before .before .before .depth .ensures, ← c .before .before .signer .ensures, ← c .before .permits .ensures) (not-true _ (c .if1 .taken))))
+returns c = sym (tried-barred _ _ _ _ (c .before .before .before .before .loop .inv .1 .1) (sym (is-permitted (c .before)) ∙ not-true _ (c .if1 .taken)))
 
 cast-has : tie.Need-cast-has Inv-loop μ-loop
 cast-has c = search needs
@@ -50,7 +62,13 @@ has-requires : tie.Need-has-requires Inv-loop μ-loop
 has-requires c κs = search needs
 
 returns-2 : tie.Need-returns-2 Inv-loop μ-loop
-returns-2 c = sym (tried-found _ _ _ _ (rw (← c .before .before .before .before .before .before .before .before .depth .ensures) (c .before .before .before .before .before .loop-test .taken)) (c .before .before .before .before .before .before .loop .inv .1 .0) (rw (← c .before .before .before .before .before .before .before .before .depth .ensures, ← c .before .before .before .before .signer .ensures, ← c .before .before .before .permits .ensures) (not-false _ (c .before .before .if1 .left))) (rw (← c .before .before .before .before .before .before .before .held .ensures, ← c .before .has .ensures) (c .if2 .taken)))
+returns-2 c =
+    sym
+    (tried-found _ _ _ _
+    (omega arith)
+    (c .before .before .before .before .before .before .loop .inv .1 .0)
+    (sym (is-permitted (c .before .before .before)) ∙ not-false _ (c .before .before .if1 .left))
+    (sym (is-held (c .before)) ∙ c .if2 .taken))
 
 add-k : tie.Need-add-k Inv-loop μ-loop
 add-k c = search needs
@@ -62,8 +80,8 @@ loop-again : tie.Need-loop-again Inv-loop μ-loop
 loop-again c = (
   omega arith,
   (
-    each-more _ _ (c .before .before .before .before .before .before .loop .inv .1 .0) (rw (← c .before .before .before .before .before .before .before .before .depth .ensures, ← c .before .before .before .before .signer .ensures, ← c .before .before .before .permits .ensures) (not-false _ (c .before .before .if1 .left))),
-    below-more _ _ (c .before .before .before .before .before .before .loop .inv .1 .1) (rw (← c .before .before .before .before .before .before .before .held .ensures, ← c .before .has .ensures) (c .if2 .left)),
+    each-more _ _ (c .before .before .before .before .before .before .loop .inv .1 .0) (sym (is-permitted (c .before .before .before)) ∙ not-false _ (c .before .before .if1 .left)),
+    below-more _ _ (c .before .before .before .before .before .before .loop .inv .1 .1) (sym (is-held (c .before)) ∙ c .if2 .left),
   ),
 )
 

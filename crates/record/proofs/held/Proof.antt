@@ -1,8 +1,6 @@
 -- The index is the definition's; a target over 63 has no word there either.
 use borrow.Author.Needs.{needs}
 use borrow.Author.Tests.{lt-ltb, le-ltb}
-use mathlib.Core.Path.{ap, _∙_}
-use native.Mathlib.Omega.{arith}
 use Rattle.record.specs.Record.{heldAt}
 use Rattle.record.proofs.held.Statement.{statement}
 use Rattle.record.proofs.held.Tie as tie
@@ -14,14 +12,14 @@ returns c = rw (le-ltb _ 64 (c .if1 .taken))
 newest-requires : tie.Need-newest-requires
 newest-requires c κs = search needs
 
-mul-at : tie.Need-mul-at
-mul-at c = search needs
+mul-first : tie.Need-mul-first
+mul-first c = search needs
+
+add-first : tie.Need-add-first
+add-first c = search needs
 
 add-result : tie.Need-add-result
 add-result c = search needs
-
-add-result-2 : tie.Need-add-result-2
-add-result-2 c = search needs
 
 mul-result : tie.Need-mul-result
 mul-result c = search needs
@@ -39,9 +37,9 @@ held-spec =
     (tie.spec
     returns
     newest-requires
-    mul-at
+    mul-first
+    add-first
     add-result
-    add-result-2
     mul-result
     element-copy-out-result
     returns-2)

@@ -1,8 +1,9 @@
--- The index is the definition's, in each of the three cases.
+-- The index is the definition's; no frame, and a target over 63, leave the words as they are.
 use borrow.Author.Needs.{needs}
 use borrow.Author.Tests.{lt-ltb, le-ltb, eq-eqb, ne-eqb}
 use mathlib.Core.Path.{refl}
 use Rattle.record.specs.Record.{holdIn}
+use Rattle.record.proofs.Served.{gives}
 use Rattle.record.proofs.hold.Statement.{statement}
 use Rattle.record.proofs.hold.Tie as tie
 
@@ -14,26 +15,26 @@ refused-requires c κs = search needs
 
 returns : tie.Need-returns
 unfolding holdIn
-returns c = rw (← c .before .before .depth .ensures, eq-eqb _ _ (c .before .if1 .taken)) (record { number = c .refused .ensures .0; byte = c .refused .ensures .1; state = refl })
+returns c = rw (← c .before .before .depth .ensures, eq-eqb _ _ (c .before .if1 .taken)) (gives (c .refused .ensures) refl)
 
 answered-requires : tie.Need-answered-requires
 answered-requires c κs = search needs
 
 returns-2 : tie.Need-returns-2
 unfolding holdIn
-returns-2 c = rw (← c .before .before .before .depth .ensures, ne-eqb _ _ (c .before .before .if1 .left), le-ltb _ 64 (c .before .if2 .taken)) (record { number = c .answered .ensures .0; byte = c .answered .ensures .1; state = refl })
+returns-2 c = rw (← c .before .before .before .depth .ensures, ne-eqb _ _ (c .before .before .if1 .left), le-ltb _ 64 (c .before .if2 .taken)) (gives (c .answered .ensures) refl)
 
 newest-requires : tie.Need-newest-requires
 newest-requires c κs = search needs
 
-mul-at : tie.Need-mul-at
-mul-at c = search needs
+mul-first : tie.Need-mul-first
+mul-first c = search needs
+
+add-first : tie.Need-add-first
+add-first c = search needs
 
 add-state : tie.Need-add-state
 add-state c = search needs
-
-add-state-2 : tie.Need-add-state-2
-add-state-2 c = search needs
 
 mul-state : tie.Need-mul-state
 mul-state c = search needs
@@ -46,7 +47,14 @@ answered-requires-2 c κs = search needs
 
 returns-3 : tie.Need-returns-3
 unfolding holdIn
-returns-3 c = rw (← c .before .newest .ensures, ← c .before .before .before .before .before .depth .ensures, ne-eqb _ _ (c .before .before .before .before .if1 .left), lt-ltb _ 64 (c .before .before .before .if2 .left)) (record { number = c .answered2 .ensures .0; byte = c .answered2 .ensures .1; state = refl })
+returns-3 c =
+    rw (
+      ← c .before .newest .ensures,
+      ← c .before .before .before .before .before .depth .ensures,
+      ne-eqb _ _ (c .before .before .before .before .if1 .left),
+      lt-ltb _ 64 (c .before .before .before .if2 .left),
+    )
+    (gives (c .answered2 .ensures) refl)
 
 pub hold-spec : {M : Type 1} → statement M
 hold-spec =
@@ -58,9 +66,9 @@ hold-spec =
     answered-requires
     returns-2
     newest-requires
-    mul-at
+    mul-first
+    add-first
     add-state
-    add-state-2
     mul-state
     element-write-state
     answered-requires-2

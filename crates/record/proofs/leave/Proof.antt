@@ -1,12 +1,12 @@
 -- The frame's words are cleared, and then the depth is one less.
 use borrow.Author.Needs.{needs}
 use borrow.Author.Tests.{eq-eqb, ne-eqb}
-use mathlib.Core.Path.{_≡_, refl, ap₂, _∙_}
+use mathlib.Core.Path.{refl, ap₂, _∙_}
 use mathlib.Core.List.{List}
 use Prim.Native.Nat.{ℕ, _-_}
-use native.Mathlib.Omega.{arith}
 use lib.ListN.{set}
 use Rattle.record.specs.Record.{depth, returnIn}
+use Rattle.record.proofs.Served.{gives}
 use Rattle.record.proofs.leave.Statement.{statement}
 use Rattle.record.proofs.leave.Tie as tie
 
@@ -18,7 +18,7 @@ refused-requires c κs = search needs
 
 returns : tie.Need-returns
 unfolding returnIn
-returns c = rw (← c .before .before .depth .ensures, eq-eqb _ _ (c .before .if1 .taken)) (record { number = c .refused .ensures .0; byte = c .refused .ensures .1; state = refl })
+returns c = rw (← c .before .before .depth .ensures, eq-eqb _ _ (c .before .if1 .taken)) (gives (c .refused .ensures) refl)
 
 clear-requires : tie.Need-clear-requires
 clear-requires c κs = search needs
@@ -36,7 +36,7 @@ returns-2 : tie.Need-returns-2
 unfolding returnIn
 returns-2 c =
     rw (ne-eqb (depth (c .before .before .before .before .before .before .args .state .now)) 0 (λ e. c .before .before .before .if1 .left (c .before .before .before .before .depth .ensures ∙ e)))
-    (record { number = c .answered .ensures .0; byte = c .answered .ensures .1; state = ap₂ (λ (l : List ℕ) (d : ℕ). set l 0 (d - 1)) (c .before .clear .ensures) (c .before .before .before .before .depth .ensures) })
+    (gives (c .answered .ensures) (ap₂ (λ (l : List ℕ) (d : ℕ). set l 0 (d - 1)) (c .before .clear .ensures) (c .before .before .before .before .depth .ensures)))
 
 pub leave-spec : {M : Type 1} → statement M
 leave-spec =

@@ -1,10 +1,8 @@
 -- After t turns the first t words are those of the start.
 use borrow.Author.Needs.{needs}
-use mathlib.Core.Path.{_≡_, refl, sym, ap, _∙_}
-use mathlib.Core.List.{List}
-use Prim.Native.Nat.{ℕ, _+_, _-_, _*_, _≤_}
+use mathlib.Core.Path.{_≡_, sym}
+use Prim.Native.Nat.{_-_, _≤_}
 use native.Mathlib.Omega.{arith}
-use lib.ListN.{getD}
 use Rattle.record.specs.Record.{filled, startWord}
 use Rattle.record.proofs.Runs.{filled-none, filled-more}
 use Rattle.record.proofs.start.Statement.{statement}

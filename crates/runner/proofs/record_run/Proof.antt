@@ -1,0 +1,26 @@
+-- Barred at once, or the words' own account.
+use borrow.Author.Needs.{needs}
+use mathlib.Core.Path.{sym, _∙_}
+use mathlib.Core.Bool.{false}
+use Rattle.runner.proofs.Progress.{at-once, in-the-end}
+use Rattle.runner.proofs.record_run.Statement.{statement}
+use Rattle.runner.proofs.record_run.Tie as tie
+
+barred-by-requires : tie.Need-barred-by-requires
+barred-by-requires c κs = search needs
+
+returns : tie.Need-returns
+returns c = at-once false _ _ _ _ (c .before .barred-by .ensures) (c .if1 .taken)
+
+record-words-requires : tie.Need-record-words-requires
+record-words-requires c κs = sym (c .before .before .barred-by .ensures) ∙ c .before .if1 .left
+
+same-length : tie.Need-same-length
+same-length c = search needs
+
+returns-2 : tie.Need-returns-2
+returns-2 c = in-the-end false _ _ _ (sym (c .before .before .before .before .before .barred-by .ensures) ∙ c .before .before .before .before .if1 .left) _ _ _ (c .before .before .record-words .ensures)
+
+pub record-run-spec : {M : Type 1} → statement M
+record-run-spec =
+    tie.close (tie.spec barred-by-requires returns record-words-requires same-length returns-2)
