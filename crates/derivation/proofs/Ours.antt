@@ -1,0 +1,161 @@
+-- Ours is accepted wherever its take may be made and every frame of it is permitted: each rule goes through the chain place by place. Assumes nothing.
+use mathlib.Core.Path.{_≡_, refl, sym, ap, _∙_}
+use mathlib.Core.Logic.{_≢_}
+use mathlib.Core.Bool.{Bool, true, false, cond, _||_}
+use mathlib.Core.Option.{Option, some, Option·map, Option·elim}
+use mathlib.Core.List.{List, [], _∷_, _++_, map, append-assoc}
+use Prim.Native.Nat.{ℕ, zero, suc, _+_, _-_, _*_, _/_, _%_, _≤_, _<_}
+use native.Mathlib.Nat.{add-zero}
+use native.Mathlib.Numerals.{add-one}
+use native.Mathlib.Omega.{arith}
+use lib.Dec.{eqb}
+use lib.ListN.{length, getD, take, set, replicate, length-append, length-replicate, getD-replicate, List·getD-append}
+use lib.Seq.{sets, length-take-le, take-suc, take-all, getD-append-add}
+use Rattle.beliefs.specs.declared.Marked.{Marked}
+use Rattle.beliefs.specs.Account.{Account, told}
+use Rattle.beliefs.specs.Policy.{permits}
+use Rattle.beliefs.specs.Derivation.{Entry, frame, signer, target, mayTake, taken, spoken, allowed, atPlace, dropFrom, rule, place, follow, judge, atPlaces, ours}
+use Rattle.beliefs.proofs.Policy.{both}
+use Rattle.derivation.proofs.Deciding.{speak, Stands, may-within}
+
+atPlaces-length : (r k n : ℕ) → length (atPlaces r k n) ≡ n
+atPlaces-length r k zero = refl
+atPlaces-length r k (suc n) = ap suc (atPlaces-length r (suc k) n)
+
+pub ours-length : (n : ℕ) → length (ours n) ≡ 3 * n + 1
+unfolding ours
+ours-length n =
+    omega (
+      arith,
+      length-append (atPlaces 1 0 n) (atPlaces 2 0 n ++ replicate n 192),
+      length-append (atPlaces 2 0 n) (replicate n 192),
+      atPlaces-length 1 0 n,
+      atPlaces-length 2 0 n,
+      length-replicate {A = ℕ} n 192,
+    )
+
+-- ours by index: the take, then each rule at each place, then drops
+getD-atPlaces : (r k n i : ℕ) → i < n → getD (atPlaces r k n) i 0 ≡ r * 64 + (k + i)
+getD-atPlaces r k zero i h = absurd (omega arith)
+getD-atPlaces r k (suc n) zero h = omega arith
+getD-atPlaces r k (suc n) (suc i) h = omega (arith, getD-atPlaces r (suc k) n i (omega arith))
+
+module _ (n j : ℕ) (later : j ≢ 0) where
+  rest : getD (ours n) j 0 ≡ getD (atPlaces 1 0 n ++ (atPlaces 2 0 n ++ replicate n 192)) (j - 1) 0
+  unfolding ours
+  rest = let e : j ≡ suc (j - 1) = omega arith in ap (λ (x : ℕ). getD (ours n) x 0) e
+
+  pub ours-spoken : j ≤ n → getD (ours n) j 0 ≡ 64 + (j - 1)
+  ours-spoken h =
+      rest ∙ List·getD-append (atPlaces 1 0 n) (atPlaces 2 0 n ++ replicate n 192) 0 (j - 1) (omega (arith, atPlaces-length 1 0 n))
+      ∙ omega (arith, getD-atPlaces 1 0 n (j - 1) (omega arith))
+
+  module _ (past : n < j) where
+    second : getD (ours n) j 0 ≡ getD (atPlaces 2 0 n ++ replicate n 192) (j - 1 - n) 0
+    second =
+        let e : j - 1 ≡ length (atPlaces 1 0 n) + (j - 1 - n) = omega (arith, atPlaces-length 1 0 n) in
+        rest ∙ ap (λ (x : ℕ). getD (atPlaces 1 0 n ++ (atPlaces 2 0 n ++ replicate n 192)) x 0) e ∙ getD-append-add (atPlaces 1 0 n) (atPlaces 2 0 n ++ replicate n 192) (j - 1 - n) 0
+
+    pub ours-allowed : j ≤ 2 * n → getD (ours n) j 0 ≡ 128 + (j - 1 - n)
+    ours-allowed h =
+        second ∙ List·getD-append (atPlaces 2 0 n) (replicate n 192) 0 (j - 1 - n) (omega (arith, atPlaces-length 2 0 n))
+        ∙ omega (arith, getD-atPlaces 2 0 n (j - 1 - n) (omega arith))
+
+    pub ours-dropped : 2 * n < j → j < 3 * n + 1 → getD (ours n) j 0 ≡ 192
+    ours-dropped h l =
+        let e : j - 1 - n ≡ length (atPlaces 2 0 n) + (j - 1 - 2 * n) = omega (arith, atPlaces-length 2 0 n) in
+        second ∙ ap (λ (x : ℕ). getD (atPlaces 2 0 n ++ replicate n 192) x 0) e ∙ getD-append-add (atPlaces 2 0 n) (replicate n 192) (j - 1 - 2 * n) 0
+        ∙ getD-replicate n (j - 1 - 2 * n) 192 0 (omega arith)
+
+-- a store after a run of stores
+sets-snoc : (l : List ℕ) (i : ℕ) (vs : List ℕ) (w : ℕ) → set (sets l i vs) (i + length vs) w ≡ sets l i (vs ++ (w ∷ []))
+sets-snoc l i [] w = ap (λ (n : ℕ). set l n w) (add-zero i)
+sets-snoc l i (v ∷ vs) w =
+    let e : i + suc (length vs) ≡ suc i + length vs = omega arith in
+    rw e (sets-snoc (set l i v) (suc i) vs w)
+
+-- the writer's loop: one more step of ours
+pub ours-more : (n : ℕ) (lent now : List ℕ) (j : ℕ) → j < 3 * n + 1 → now ≡ sets lent 0 (take j (ours n)) → set now j (getD (ours n) j 0) ≡ sets lent 0 (take (j + 1) (ours n))
+ours-more n lent now j h e =
+    let inside : j < length (ours n) = omega (arith, ours-length n) in
+    let at : 0 + length (take j (ours n)) ≡ j = omega (arith, length-take-le j (ours n) (omega arith)) in
+    rw (e, add-one, take-suc (ours n) j 0 inside) (rw at at (sets-snoc lent 0 (take j (ours n)) (getD (ours n) j 0)))
+
+pub ours-all : (n j : ℕ) → 3 * n + 1 ≤ j → take j (ours n) ≡ ours n
+ours-all n j h = take-all j (ours n) (omega (arith, ours-length n))
+
+-- an entry in the midst of a chain
+at-place : (g : Entry → Option Entry) (before : List Entry) (e x : Entry) (es : List Entry) → g e ≡ some x
+    → atPlace g (length before) (before ++ (e ∷ es)) ≡ some (before ++ (x ∷ es))
+at-place g [] e x es h = rw h
+at-place g (y ∷ before) e x es h = rw (at-place g before e x es h)
+
+drop-targets : (n : ℕ) → dropFrom target (replicate n target) ≡ some (replicate n target)
+drop-targets zero = refl
+drop-targets (suc n) = rw (drop-targets n)
+
+all-targets : (ms : List Marked) → map (λ (m : Marked). target) ms ≡ replicate (length ms) target
+all-targets [] = refl
+all-targets (m ∷ ms) = ap (λ (l : List Entry). target ∷ l) (all-targets ms)
+
+module _ (p : List ℕ) (t : ℕ) (ms : List Marked) where
+  -- a rule at one place after the other: what was before of each frame, and what it is after
+  module _ (r : ℕ) (g : Entry → Option Entry) (was is : Marked → Entry)
+      (turns : (m : Marked) → permits p (m .signer) t ≡ true → g (was m) ≡ some (is m))
+      (does : (k : ℕ) (es : List Entry) → k < 64 → follow p ms t (r * 64 + k) es ≡ atPlace g k es) where
+    sweep : (before : List Entry) (gs : List Marked) (i k : ℕ) (rest : List ℕ) → k ≡ length before → k + length gs ≤ 63 → speak p t gs ≡ true
+        → judge p ms t true i (before ++ map was gs) (atPlaces r k (length gs) ++ rest) ≡ judge p ms t true (i + length gs) (before ++ map is gs) rest
+    unfolding judge Option·elim
+    sweep before [] i k rest e l h = let same : i ≡ i + 0 = omega arith in rw (← same)
+    sweep before (m ∷ gs) i k rest e l h =
+        let q = both (permits p (m .signer) t) h in
+        let one : follow p ms t (r * 64 + k) (before ++ (was m ∷ map was gs)) ≡ some (before ++ (is m ∷ map was gs)) =
+        does k (before ++ (was m ∷ map was gs)) (omega arith) ∙ rw e (at-place g before (was m) (is m) (map was gs) (turns m (q .0))) in
+        let up : suc k ≡ length (before ++ (is m ∷ [])) = omega (arith, length-append before (is m ∷ [])) in
+        let n : suc i + length gs ≡ i + suc (length gs) = omega arith in
+        let more = sweep (before ++ (is m ∷ [])) gs (suc i) (suc k) rest up (omega arith) (q .1) in
+        rw one (rw n at (simp append-assoc at more))
+
+  one-by-one : (k : ℕ) (es : List Entry) → k < 64 → follow p ms t (1 * 64 + k) es ≡ atPlace spoken k es
+  unfolding follow
+  one-by-one k es h =
+      let a : (1 * 64 + k) / 64 ≡ 1 = omega arith in
+      let b : (1 * 64 + k) % 64 ≡ k = omega arith in
+      rw (a, b)
+
+  two-by-two : (k : ℕ) (es : List Entry) → k < 64 → follow p ms t (2 * 64 + k) es ≡ atPlace (allowed p t) k es
+  unfolding follow
+  two-by-two k es h =
+      let a : (2 * 64 + k) / 64 ≡ 2 = omega arith in
+      let b : (2 * 64 + k) % 64 ≡ k = omega arith in
+      rw (a, b)
+
+  drops : (n i : ℕ) → judge p ms t true i (replicate n target) (replicate n 192) ≡ told 0 (i + n)
+  unfolding judge Option·elim follow
+  drops zero i = let same : i ≡ i + 0 = omega arith in rw (← same)
+  drops (suc n) i =
+      let same : suc i + n ≡ i + suc n = omega arith in
+      rw (drop-targets n) (drops n (suc i) ∙ ap (told 0) same)
+
+  takes : (n : ℕ) → n < 64 → mayTake t n ms ≡ true → follow p ms t n [] ≡ some (taken n ms)
+  unfolding follow
+  takes n h may =
+      let a : n / 64 ≡ 0 = omega arith in
+      let b : n % 64 ≡ n = omega arith in
+      rw (a, b, may)
+
+  pub ours-accepted : (n : ℕ) → n ≤ 63 → Stands p t ms n → judge p ms t false 0 [] (ours n) ≡ told 0 (3 * n + 1)
+  unfolding judge Option·elim ours
+  ours-accepted n few s =
+      let gs : List Marked = take n ms in
+      let count : length gs ≡ n = length-take-le n ms (may-within t ms n (s .may) .1) in
+      let first : n / 64 ≡ 0 = omega arith in
+      let rest : List ℕ = replicate n 192 in
+      let total : 1 + n + n + n ≡ 3 * n + 1 = omega arith in
+      let spoken-all : judge p ms t true 1 (taken n ms) (atPlaces 1 0 n ++ (atPlaces 2 0 n ++ rest)) ≡ judge p ms t true (1 + n) (map (λ (m : Marked). signer (m .signer)) gs) (atPlaces 2 0 n ++ rest) =
+      rw count at (sweep 1 spoken (λ m. frame (m .signer)) (λ m. signer (m .signer)) (λ m h. refl) one-by-one [] gs 1 0 (atPlaces 2 0 n ++ rest) refl (omega arith) (s .permitted)) in
+      let allowed-all : judge p ms t true (1 + n) (map (λ (m : Marked). signer (m .signer)) gs) (atPlaces 2 0 n ++ rest) ≡ judge p ms t true (1 + n + n) (map (λ (m : Marked). target) gs) rest =
+      rw count at (sweep 2 (allowed p t) (λ m. signer (m .signer)) (λ m. target) (λ m h. rw h) two-by-two [] gs (1 + n) 0 rest refl (omega arith) (s .permitted)) in
+      let ended : judge p ms t true (1 + n + n) (map (λ (m : Marked). target) gs) rest ≡ told 0 (3 * n + 1) =
+      rw (all-targets gs, count, ← total) (drops n (1 + n + n)) in
+      rw (takes n (omega arith) (s .may), first) (spoken-all ∙ allowed-all ∙ ended)

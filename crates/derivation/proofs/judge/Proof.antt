@@ -1,0 +1,70 @@
+-- What is left to judge, from the chain that the steps so far have made.
+use borrow.Author.Needs.{needs}
+use mathlib.Core.Path.{_≡_, refl, sym, ap, _∙_}
+use mathlib.Core.Bool.{false}
+use mathlib.Core.List.{[]}
+use Prim.Native.Nat.{ℕ, _-_, _≤_}
+use native.Mathlib.Omega.{arith}
+use lib.ListN.{length}
+use Rattle.beliefs.specs.Derivation.{judge}
+use Rattle.walk.specs.State.{frames}
+use Rattle.derivation.proofs.Judged.{left, at-end, refused, onward}
+use Rattle.derivation.proofs.judge.Statement.{statement}
+use Rattle.derivation.proofs.judge.Tie as tie
+
+abbrev Inv-loop : tie.InvT-loop
+Inv-loop policy state target steps chain₀ i₀ chain i = (i ≤ length steps) × (judge policy (frames state) target false 0 [] steps ≡ left policy (frames state) target steps i chain)
+
+abbrev μ-loop : tie.MeasureT-loop
+μ-loop policy state target steps chain₀ i₀ chain i = length steps - i
+
+loop-holds : tie.Need-loop-holds Inv-loop μ-loop
+loop-holds c = (omega arith, refl)
+
+shared-slice-read-follow : tie.Need-shared-slice-read-follow Inv-loop μ-loop
+shared-slice-read-follow c = search needs
+
+follow-requires : tie.Need-follow-requires Inv-loop μ-loop
+follow-requires c κs = search needs
+
+enum-known-turn : tie.Need-enum-known-turn Inv-loop μ-loop
+enum-known-turn c = search needs
+
+enum-told : tie.Need-enum-told Inv-loop μ-loop
+enum-told c = search needs
+
+returns : tie.Need-returns Inv-loop μ-loop
+returns c = rw (c .before .before .before .before .before .loop .inv .1 ∙ refused (c .before .before .before .before .before .before .before .args .policy .now) (frames (c .before .before .before .before .before .before .before .args .state .now)) (c .before .before .before .before .before .before .before .args .target) (c .before .before .before .before .before .before .before .args .steps .now) (c .before .before .before .before .before .loop .i) (c .before .before .before .before .before .loop .chain) (c .before .before .before .before .loop-test .taken) (rw (c .enum-told .given .1) at (c .before .before .follow .ensures))) (record { number = refl; figure = refl })
+
+add-i : tie.Need-add-i Inv-loop μ-loop
+add-i c = search needs
+
+loop-less : tie.Need-loop-less Inv-loop μ-loop
+loop-less c = search needs
+
+loop-again : tie.Need-loop-again Inv-loop μ-loop
+loop-again c = (omega arith, c .before .before .before .before .before .before .loop .inv .1 ∙ onward (c .before .before .before .before .before .before .before .before .args .policy .now) (frames (c .before .before .before .before .before .before .before .before .args .state .now)) (c .before .before .before .before .before .before .before .before .args .target) (c .before .before .before .before .before .before .before .before .args .steps .now) (c .before .before .before .before .before .before .loop .i) (c .before .before .before .before .before .before .loop .chain) (c .before .before .before .before .before .loop-test .taken) (c .before .turn .given .0 .0) (rw (c .before .turn .given .1) at (c .before .before .before .follow .ensures)))
+
+conclude-requires : tie.Need-conclude-requires Inv-loop μ-loop
+conclude-requires c κs = search needs
+
+returns-2 : tie.Need-returns-2 Inv-loop μ-loop
+returns-2 c = let e : c .before .before .loop .i ≡ length (c .before .before .before .before .args .steps .now) = omega arith in rw (c .before .before .loop .inv .1 ∙ at-end (c .before .before .before .before .args .policy .now) (frames (c .before .before .before .before .args .state .now)) (c .before .before .before .before .args .target) (c .before .before .before .before .args .steps .now) (c .before .before .loop .i) (c .before .before .loop .chain) e) (c .conclude .ensures)
+
+pub judge-spec : {M : Type 1} → statement M
+judge-spec =
+    tie.close
+    (tie.spec
+    Inv-loop
+    μ-loop
+    loop-holds
+    shared-slice-read-follow
+    follow-requires
+    enum-known-turn
+    enum-told
+    returns
+    add-i
+    loop-less
+    loop-again
+    conclude-requires
+    returns-2)

@@ -1,0 +1,44 @@
+-- The tests of rule 0 in their order.
+use borrow.Author.Needs.{needs}
+use borrow.Author.Tests.{not-true, not-false}
+use mathlib.Core.Path.{sym, ap, _∙_}
+use Rattle.derivation.proofs.Entries.{take-none, take-past, take-in}
+use Rattle.derivation.proofs.may_take.Statement.{statement}
+use Rattle.derivation.proofs.may_take.Tie as tie
+
+returns : tie.Need-returns
+returns c = take-none _ _ (c .before .args .state .now) (c .if1 .taken)
+
+depth-requires : tie.Need-depth-requires
+depth-requires c κs = search needs
+
+returns-2 : tie.Need-returns-2
+returns-2 c = take-past _ _ (c .before .before .before .args .state .now) (c .before .before .if1 .left) (rw (c .before .depth .ensures) at (c .if2 .taken))
+
+frame-at-requires : tie.Need-frame-at-requires
+frame-at-requires c κs = search needs
+
+has-requires : tie.Need-has-requires
+has-requires c κs = search needs
+
+returns-3 : tie.Need-returns-3
+returns-3 c = rw (take-in (c .before .before .before .before .before .before .args .target) (c .before .before .before .before .before .before .args .n) (c .before .before .before .before .before .before .args .state .now) (c .before .before .before .before .before .if1 .left) (rw (c .before .before .before .before .depth .ensures) at (c .before .before .before .if2 .left)), ← c .before .before .frame-at .ensures, ← c .before .has .ensures, not-true (c .before .has .result) (c .if3 .taken))
+
+none-disabled-requires : tie.Need-none-disabled-requires
+none-disabled-requires c κs = search needs
+
+returns-4 : tie.Need-returns-4
+returns-4 c = rw (take-in (c .before .before .before .before .before .before .before .args .target) (c .before .before .before .before .before .before .before .args .n) (c .before .before .before .before .before .before .before .args .state .now) (c .before .before .before .before .before .before .if1 .left) (rw (c .before .before .before .before .before .depth .ensures) at (c .before .before .before .before .if2 .left)), ← c .before .before .before .frame-at .ensures, ← c .before .before .has .ensures, not-false (c .before .before .has .result) (c .before .if3 .left)) (c .none-disabled .ensures)
+
+pub may-take-spec : {M : Type 1} → statement M
+may-take-spec =
+    tie.close
+    (tie.spec
+    returns
+    depth-requires
+    returns-2
+    frame-at-requires
+    has-requires
+    returns-3
+    none-disabled-requires
+    returns-4)

@@ -1,0 +1,34 @@
+-- A frame's bit is set where it was not; a signer, T and a place past the chain are refused.
+use borrow.Author.Needs.{needs}
+use mathlib.Core.Path.{sym, _∙_}
+use native.Mathlib.Omega.{arith}
+use Rattle.beliefs.specs.Derivation.{spoken, place}
+use Rattle.derivation.proofs.Entries.{past, spoken-target, spoken-signer, spoken-frame}
+use Rattle.derivation.proofs.speak.Statement.{statement}
+use Rattle.derivation.proofs.speak.Tie as tie
+
+returns : tie.Need-returns
+returns c = record { over = λ ms. past ms (c .before .before .args .chain) (place (c .before .before .args .step)) spoken (c .if1 .taken) }
+
+has-requires : tie.Need-has-requires
+has-requires c κs = search needs
+
+returns-2 : tie.Need-returns-2
+returns-2 c = record { over = λ ms. spoken-target ms (c .before .before .before .before .args .chain) (place (c .before .before .before .before .args .step)) (sym (c .before .has .ensures) ∙ c .if2 .taken) }
+
+has-requires-2 : tie.Need-has-requires-2
+has-requires-2 c κs = search needs
+
+returns-3 : tie.Need-returns-3
+returns-3 c = record { over = λ ms. spoken-signer ms (c .before .before .before .before .before .before .args .chain) (place (c .before .before .before .before .before .before .args .step)) (sym (c .before .before .before .has .ensures) ∙ c .before .before .if2 .left) (sym (c .before .has2 .ensures) ∙ c .if3 .taken) }
+
+with-requires : tie.Need-with-requires
+with-requires c κs = search needs
+
+returns-4 : tie.Need-returns-4
+returns-4 c = record { over = λ ms. rw (c .with .ensures) (spoken-frame ms (c .before .before .before .before .before .before .before .args .chain) (place (c .before .before .before .before .before .before .before .args .step)) (omega arith) (c .before .before .before .before .before .if1 .left) (sym (c .before .before .before .before .has .ensures) ∙ c .before .before .before .if2 .left) (sym (c .before .before .has2 .ensures) ∙ c .before .if3 .left)) }
+
+pub speak-spec : {M : Type 1} → statement M
+speak-spec =
+    tie.close
+    (tie.spec returns has-requires returns-2 has-requires-2 returns-3 with-requires returns-4)
