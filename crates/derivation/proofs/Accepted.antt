@@ -1,5 +1,5 @@
 -- What an accepted derivation shows, whoever wrote it: some take may be made, every frame of it is permitted, and three steps were spent on each of its frames beside the take. Assumes nothing.
-use mathlib.Core.Path.{_≡_, refl, sym, ap, _∙_}
+use mathlib.Core.Path.{_≡_, refl}
 use mathlib.Core.Bool.{Bool, true, false, cond, _&&_, _||_}
 use mathlib.Core.Option.{Option, some, none, Option·map, Option·elim}
 use mathlib.Core.List.{List, [], _∷_, map}
@@ -11,9 +11,9 @@ use lib.Seq.{length-take-le}
 use Rattle.beliefs.specs.declared.Marked.{Marked}
 use Rattle.beliefs.specs.Lists.{empty}
 use Rattle.beliefs.specs.Numbers.{notAllowed, notEmpty}
-use Rattle.beliefs.specs.Account.{Account, told}
+use Rattle.beliefs.specs.Account.{told}
 use Rattle.beliefs.specs.Policy.{permits}
-use Rattle.beliefs.specs.Derivation.{Entry, frame, signer, target, mayTake, taken, spoken, allowed, atPlace, isTarget, dropFrom, dropLast, rule, place, follow, judge}
+use Rattle.beliefs.specs.Derivation.{Entry, frame, signer, target, mayTake, taken, spoken, allowed, atPlace, dropFrom, dropLast, rule, place, follow, judge}
 use Rattle.derivation.proofs.Deciding.{speak, Stands, may-within, never}
 
 -- a frame is three steps from being dropped, a signer two, T one

@@ -14,11 +14,11 @@ use Rattle.beliefs.specs.declared.Marked.{Marked}
 use Rattle.beliefs.specs.declared.Operation.{Operation}
 use Rattle.beliefs.specs.declared.Operation.the-variants.{Call, Return, Enable, Disable, Revert, Check}
 use Rattle.beliefs.specs.Lists.{empty}
-use Rattle.beliefs.specs.Numbers.{notAllowed, notEmpty, noFrame, tooDeep}
+use Rattle.beliefs.specs.Numbers.{notAllowed, notEmpty, tooDeep}
 use Rattle.beliefs.specs.Account.{Account, told}
 use Rattle.beliefs.specs.Policy.{targets, valid}
 use Rattle.beliefs.specs.Stack.{Frame, marked, granted, walk, called, enable, disable, revert}
-use Rattle.beliefs.specs.Trace.{Outcome, refuse, done, byNewest, step}
+use Rattle.beliefs.specs.Trace.{refuse, done, byNewest, step}
 use Rattle.beliefs.specs.Engine.{inside}
 use Rattle.beliefs.specs.Derivation.{Entry, rule, follow, judge, judged, ours}
 use Rattle.beliefs.proofs.Policy.{Ranges, ranges}

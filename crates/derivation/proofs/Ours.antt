@@ -1,20 +1,19 @@
 -- Ours is accepted wherever its take may be made and every frame of it is permitted: each rule goes through the chain place by place. Assumes nothing.
-use mathlib.Core.Path.{_≡_, refl, sym, ap, _∙_}
+use mathlib.Core.Path.{_≡_, refl, ap, _∙_}
 use mathlib.Core.Logic.{_≢_}
-use mathlib.Core.Bool.{Bool, true, false, cond, _||_}
-use mathlib.Core.Option.{Option, some, Option·map, Option·elim}
+use mathlib.Core.Bool.{true, false}
+use mathlib.Core.Option.{Option, some, Option·elim}
 use mathlib.Core.List.{List, [], _∷_, _++_, map, append-assoc}
 use Prim.Native.Nat.{ℕ, zero, suc, _+_, _-_, _*_, _/_, _%_, _≤_, _<_}
 use native.Mathlib.Nat.{add-zero}
 use native.Mathlib.Numerals.{add-one}
 use native.Mathlib.Omega.{arith}
-use lib.Dec.{eqb}
 use lib.ListN.{length, getD, take, set, replicate, length-append, length-replicate, getD-replicate, List·getD-append}
 use lib.Seq.{sets, length-take-le, take-suc, take-all, getD-append-add}
 use Rattle.beliefs.specs.declared.Marked.{Marked}
-use Rattle.beliefs.specs.Account.{Account, told}
+use Rattle.beliefs.specs.Account.{told}
 use Rattle.beliefs.specs.Policy.{permits}
-use Rattle.beliefs.specs.Derivation.{Entry, frame, signer, target, mayTake, taken, spoken, allowed, atPlace, dropFrom, rule, place, follow, judge, atPlaces, ours}
+use Rattle.beliefs.specs.Derivation.{Entry, frame, signer, target, mayTake, taken, spoken, allowed, atPlace, dropFrom, follow, judge, atPlaces, ours}
 use Rattle.beliefs.proofs.Policy.{both}
 use Rattle.derivation.proofs.Deciding.{speak, Stands, may-within}
 

@@ -1,7 +1,6 @@
 -- The guards in their order.
 use borrow.Author.Needs.{needs}
 use borrow.Author.Tests.{not-true, not-false, lt-ltb, le-ltb, eq-eqb, ne-eqb}
-use mathlib.Core.Path.{_≡_, sym, ap, _∙_}
 use Rattle.derivation.specs.Promise.{barred}
 use Rattle.derivation.proofs.Judged.{empty-frames}
 use Rattle.derivation.proofs.barred.Statement.{statement}

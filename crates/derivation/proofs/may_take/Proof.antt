@@ -1,7 +1,6 @@
 -- The tests of rule 0 in their order.
 use borrow.Author.Needs.{needs}
 use borrow.Author.Tests.{not-true, not-false}
-use mathlib.Core.Path.{sym, ap, _∙_}
 use Rattle.derivation.proofs.Entries.{take-none, take-past, take-in}
 use Rattle.derivation.proofs.may_take.Statement.{statement}
 use Rattle.derivation.proofs.may_take.Tie as tie

@@ -1,8 +1,6 @@
 -- Ours by index.
 use borrow.Author.Needs.{needs}
-use mathlib.Core.Path.{sym, ap, refl, _∙_}
-use lib.ListN.{getD}
-use Prim.Native.Nat.{ℕ}
+use mathlib.Core.Path.{sym}
 use native.Mathlib.Omega.{arith}
 use Rattle.beliefs.specs.Derivation.{ours}
 use Rattle.derivation.proofs.Ours.{ours-spoken, ours-allowed, ours-dropped}

@@ -1,7 +1,7 @@
 -- A permitted signer's bit is set; a frame, T, a signer that is not permitted and a place past the chain are refused.
 use borrow.Author.Needs.{needs}
 use borrow.Author.Tests.{not-true, not-false}
-use mathlib.Core.Path.{sym, ap, _∙_}
+use mathlib.Core.Path.{sym, _∙_}
 use native.Mathlib.Omega.{arith}
 use Rattle.beliefs.specs.Derivation.{allowed, place}
 use Rattle.walk.specs.State.{frames}

@@ -7,7 +7,6 @@ use mathlib.Core.Option.{some}
 use mathlib.Core.List.{List}
 use Rattle.beliefs.specs.Derivation.{Entry, mayTake, place}
 use Rattle.walk.specs.State.{frames}
-use Rattle.derivation.specs.Chain.{Held}
 use Rattle.derivation.proofs.Deciding.{may-within}
 use Rattle.derivation.proofs.Entries.{fresh}
 use Rattle.derivation.proofs.take.Statement.{statement}

@@ -1,8 +1,7 @@
 -- Turned away by a guard, forbidden, no room, or ours at the front.
 use borrow.Author.Needs.{needs}
 use borrow.Author.Tests.{not-true, not-false}
-use mathlib.Core.Path.{_≡_, refl, sym, ap, _∙_}
-use native.Mathlib.Omega.{arith}
+use mathlib.Core.Path.{refl, sym, ap, _∙_}
 use lib.ListN.{length}
 use lib.Seq.{length-sets}
 use Rattle.derivation.proofs.Judged.{write-barred, write-forbidden, write-short, write-done}
