@@ -1,0 +1,128 @@
+-- What a refusal leaves: the steps behind the first demand. Assumes nothing.
+use mathlib.Core.Path.{_≡_, refl, _∙_}
+use mathlib.Core.Logic.{_≢_}
+use mathlib.Core.Bool.{Bool, true, false, cond}
+use mathlib.Core.List.{List, [], _∷_}
+use Prim.Native.Nat.{ℕ, suc, _+_, _*_, _-_, _/_, _%_}
+use native.Mathlib.Omega.{arith}
+use lib.Dec.{eqb, ltb}
+use lib.ListN.{length}
+use borrow.Author.Tests.{ne-eqb}
+use Rattle.beliefs.specs.declared.Operation.{Operation}
+use Rattle.beliefs.specs.declared.Operation.the-variants.{Call, Return, Enable, Disable, Revert, Check}
+use Rattle.beliefs.specs.declared.Decoded.{Decoded}
+use Rattle.beliefs.specs.declared.Decoded.the-variants.{Word, Refused}
+use Rattle.beliefs.specs.Account.{Account, told, before}
+use Rattle.beliefs.specs.Lists.{empty}
+use Rattle.beliefs.specs.Policy.{signers, targets, size, valid, writing}
+use Rattle.beliefs.specs.Stack.{Frame, walk as walked}
+use Rattle.beliefs.specs.Derivation.{derived}
+use Rattle.beliefs.specs.Words.{decoded}
+use Rattle.beliefs.specs.Trace.{Outcome, answerByte, served, runFrom, run}
+use Rattle.beliefs.specs.Engine.{Moved, refuseIn, decodedIn, guarded, Operated}
+use Rattle.walk.specs.State as walk
+use Rattle.record.specs.Record as record′
+use Rattle.derivation.specs.Promise as promised
+
+-- an engine whose refused operations leave the words as they were
+pub record Leaves (s : List ℕ) (m : Moved) : Type 0 where
+  pub keeps : m .number ≢ 0 → m .state ≡ s
+
+module _ (s : List ℕ) where
+  either : (e : Bool) (a b : Moved) → Leaves s a → Leaves s b → Leaves s (cond e a b)
+  either true a b h k = h
+  either false a b h k = k
+
+  accepted : (m : Moved) → m .number ≡ 0 → Leaves s m
+  accepted m e = record { keeps = λ nz. absurd (nz e) }
+
+  left : (n : ℕ) → Leaves s (refuseIn n s)
+  left n = record { keeps = λ nz. refl }
+
+  pub walk-leaves : (p : List ℕ) (op : Operation) → Leaves s (walk.stepIn p s op)
+  unfolding walk.callIn walk.returnIn walk.markIn walk.checkIn
+  walk-leaves p (Call g) = either (ltb (walk.depth s) 63) _ _ (accepted _ refl) (left 8)
+  walk-leaves p Return = either (eqb (walk.depth s) 0) _ _ (left 7) (accepted _ refl)
+  walk-leaves p (Enable t) = either (eqb (walk.depth s) 0) _ _ (left 7) (accepted _ refl)
+  walk-leaves p (Disable t) = either (eqb (walk.depth s) 0) _ _ (left 7) (accepted _ refl)
+  walk-leaves p (Revert t) = either (eqb (walk.depth s) 0) _ _ (left 7) (accepted _ refl)
+  walk-leaves p (Check t) = either (eqb (walk.depth s) 0) _ _ (left 7) (accepted _ refl)
+
+  pub record-leaves : (p : List ℕ) (op : Operation) → Leaves s (record′.stepIn p s op)
+  unfolding record′.callIn record′.returnIn record′.holdIn record′.checkIn
+  record-leaves p (Call g) = either (ltb (record′.depth s) 63) _ _ (accepted _ refl) (left 8)
+  record-leaves p Return = either (eqb (record′.depth s) 0) _ _ (left 7) (accepted _ refl)
+  record-leaves p (Enable t) = either (eqb (record′.depth s) 0) _ _ (left 7) (accepted _ refl)
+  record-leaves p (Disable t) = either (eqb (record′.depth s) 0) _ _ (left 7) (accepted _ refl)
+  record-leaves p (Revert t) = either (eqb (record′.depth s) 0) _ _ (left 7) (accepted _ refl)
+  record-leaves p (Check t) = either (eqb (record′.depth s) 0) _ _ (left 7) (accepted _ refl)
+
+  decoded-leaves : (act : Operation → Moved) → ((op : Operation) → Leaves s (act op)) → (d : Decoded) → Leaves s (decodedIn act d s)
+  decoded-leaves act h (Word x) = h (x .op)
+  decoded-leaves act h (Refused n) = left n
+
+  -- a word that is refused, by whichever number, leaves the state and the answer byte as they were
+  pub word-leaves : (fits : Bool) (act : Operation → Moved) → ((op : Operation) → Leaves s (act op)) → (p : List ℕ) (w n lent byte : ℕ) (now : List ℕ)
+      → Operated n lent byte now (guarded fits act p w s) → n ≢ 0 → (now ≡ s) × (byte ≡ lent)
+  unfolding guarded
+  word-leaves fits act h p w n lent byte now o nz =
+      let m : Moved = guarded fits act p w s in
+      let mz : m .number ≢ 0 = λ e. nz (o .number ∙ e) in
+      let same : Leaves s m = either (valid p) _ _ (either fits _ _ (decoded-leaves act h (decoded (signers p) (targets p) w 0)) (left 14)) (left 13) in
+      (o .state ∙ same .keeps mz, o .answer ∙ rw (ne-eqb (m .number) 0 mz))
+
+-- a run writes as many bytes as its figure says
+runFrom-figure : (counts : Bool) (p : List ℕ) (i : ℕ) (trace : List ℕ) (st : List Frame) → runFrom counts p i trace st .figure ≡ i + length (runFrom counts p i trace st .written)
+unfolding runFrom
+runFrom-figure counts p i [] st = omega arith
+runFrom-figure counts p i (a ∷ []) st = omega arith
+runFrom-figure counts p i (a ∷ b ∷ rest) st =
+    let o : Outcome = served p (decoded (signers p) (targets p) (256 * a + b) i) st in
+    go o (eqb (o .number) 0) (runFrom counts p (suc i) rest (o .stack)) (runFrom-figure counts p (suc i) rest (o .stack))
+  where
+    go : (o : Outcome) (e : Bool) (more : Account) → more .figure ≡ suc i + length (more .written)
+        → cond e (before (answerByte counts o ∷ []) more) (told (o .number) i) .figure ≡ i + length (cond e (before (answerByte counts o ∷ []) more) (told (o .number) i) .written)
+    go o true more h = omega arith
+    go o false more h = omega arith
+
+pub run-figure : (counts : Bool) (p trace : List ℕ) (room : ℕ) → run counts p trace room .figure ≡ length (run counts p trace room .written)
+unfolding run
+run-figure counts p trace room = go (valid p) (eqb (length trace % 2) 0) (ltb room (length trace / 2))
+  where
+    go : (a b c : Bool) → cond a (cond b (cond c (told 9 0) (runFrom counts p 0 trace [])) (told 1 0)) (told 13 0) .figure
+        ≡ length (cond a (cond b (cond c (told 9 0) (runFrom counts p 0 trace [])) (told 1 0)) (told 13 0) .written)
+    go true true true = refl
+    go true true false = omega (arith, runFrom-figure counts p 0 trace [])
+    go true false c = refl
+    go false b c = refl
+
+-- an account that writes nothing where it refuses
+pub record Silent (a : Account) : Type 0 where
+  pub quiet : a .number ≢ 0 → a .written ≡ []
+
+either-silent : (e : Bool) (a b : Account) → Silent a → Silent b → Silent (cond e a b)
+either-silent true a b h k = h
+either-silent false a b h k = k
+
+told-silent : (n k : ℕ) → Silent (told n k)
+told-silent n k = record { quiet = λ nz. refl }
+
+given-silent : (a : Account) → a .number ≡ 0 → Silent a
+given-silent a e = record { quiet = λ nz. absurd (nz e) }
+
+pub policy-silent : (p : List ℕ) (room : ℕ) → Silent (writing p room)
+unfolding writing
+policy-silent p room = either-silent (valid p) _ _ (either-silent (ltb room (size (signers p) (targets p))) _ _ (told-silent 9 0) (given-silent _ refl)) (told-silent 13 0)
+
+pub derivation-silent : (p s : List ℕ) (t room : ℕ) → Silent (promised.writing p s t room)
+unfolding promised.writing derived
+derivation-silent p s t room =
+    let ms = walk.frames s in
+    either-silent (valid p) _ _
+    (either-silent (walk.fits p s) _ _
+    (either-silent (ltb t (targets p)) _ _
+    (either-silent (empty ms) _ _ (told-silent 7 0)
+    (either-silent (walked p t ms .granted) _ _ (either-silent (ltb room (3 * walked p t ms .looked + 1)) _ _ (told-silent 9 0) (given-silent _ refl)) (told-silent 12 0)))
+    (told-silent 6 0))
+    (told-silent 14 0))
+    (told-silent 13 0)
