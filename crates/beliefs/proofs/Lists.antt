@@ -1,4 +1,4 @@
--- Laws of `any`, `all`, `keep` and `each`. Assumes nothing.
+-- Laws of `any`, `all`, `keep` and `each`, and of runs of stores. Assumes nothing.
 use mathlib.Core.Path.{_≡_, refl, sym, ap, ap₂, _∙_}
 use mathlib.Core.Bool.{Bool, true, false, cond, _&&_, _||_, and-false, and-true, and-assoc}
 use mathlib.Core.List.{List, [], _∷_, _++_, map}
@@ -8,7 +8,9 @@ use native.Mathlib.Numerals.{add-one}
 use native.Mathlib.Omega.{arith}
 use lib.Dec.{eqb}
 use borrow.Author.Tests.{eqb-true, eqb-false}
-use lib.ListN.{length, getD}
+use native.Mathlib.Nat.{add-zero}
+use lib.ListN.{length, getD, set}
+use lib.Seq.{sets}
 use Rattle.beliefs.specs.Lists.{any, all, keep, each}
 
 module _ {A : Type 0} where
@@ -94,3 +96,8 @@ all-at f l h = each-at (λ k. f (getD l k 0)) (length l) (sym (all-each f l) ∙
 
 pub all-of : (f : ℕ → Bool) (l : List ℕ) → ((k : ℕ) → k < length l → f (getD l k 0) ≡ true) → all f l ≡ true
 all-of f l h = all-each f l ∙ each-of (λ k. f (getD l k 0)) (length l) h
+
+-- stores into a lent buffer, one run after the other
+pub sets-more : (l : List ℕ) (i : ℕ) (vs ws : List ℕ) → sets (sets l i vs) (i + length vs) ws ≡ sets l i (vs ++ ws)
+sets-more l i [] ws = rw (add-zero i)
+sets-more l i (v ∷ vs) ws = let e : i + suc (length vs) ≡ suc i + length vs = omega arith in rw e (sets-more (set l i v) (suc i) vs ws)

@@ -5,7 +5,6 @@ use mathlib.Core.Bool.{true, false}
 use mathlib.Core.Option.{Option, some, Option·elim}
 use mathlib.Core.List.{List, [], _∷_, _++_, map, append-assoc}
 use Prim.Native.Nat.{ℕ, zero, suc, _+_, _-_, _*_, _/_, _%_, _≤_, _<_}
-use native.Mathlib.Nat.{add-zero}
 use native.Mathlib.Numerals.{add-one}
 use native.Mathlib.Omega.{arith}
 use lib.ListN.{length, getD, take, set, replicate, length-append, length-replicate, getD-replicate, List·getD-append}
@@ -14,6 +13,7 @@ use Rattle.beliefs.specs.declared.Marked.{Marked}
 use Rattle.beliefs.specs.Account.{told}
 use Rattle.beliefs.specs.Policy.{permits}
 use Rattle.beliefs.specs.Derivation.{Entry, frame, signer, target, mayTake, taken, spoken, allowed, atPlace, dropFrom, follow, judge, atPlaces, ours}
+use Rattle.beliefs.proofs.Lists.{sets-more}
 use Rattle.beliefs.proofs.Policy.{both}
 use Rattle.derivation.proofs.Deciding.{speak, Stands, may-within}
 
@@ -66,19 +66,12 @@ module _ (n j : ℕ) (later : j ≢ 0) where
         second ∙ ap (λ (x : ℕ). getD (atPlaces 2 0 n ++ replicate n 192) x 0) e ∙ getD-append-add (atPlaces 2 0 n) (replicate n 192) (j - 1 - 2 * n) 0
         ∙ getD-replicate n (j - 1 - 2 * n) 192 0 (omega arith)
 
--- a store after a run of stores
-sets-snoc : (l : List ℕ) (i : ℕ) (vs : List ℕ) (w : ℕ) → set (sets l i vs) (i + length vs) w ≡ sets l i (vs ++ (w ∷ []))
-sets-snoc l i [] w = ap (λ (n : ℕ). set l n w) (add-zero i)
-sets-snoc l i (v ∷ vs) w =
-    let e : i + suc (length vs) ≡ suc i + length vs = omega arith in
-    rw e (sets-snoc (set l i v) (suc i) vs w)
-
 -- the writer's loop: one more step of ours
 pub ours-more : (n : ℕ) (lent now : List ℕ) (j : ℕ) → j < 3 * n + 1 → now ≡ sets lent 0 (take j (ours n)) → set now j (getD (ours n) j 0) ≡ sets lent 0 (take (j + 1) (ours n))
 ours-more n lent now j h e =
     let inside : j < length (ours n) = omega (arith, ours-length n) in
     let at : 0 + length (take j (ours n)) ≡ j = omega (arith, length-take-le j (ours n) (omega arith)) in
-    rw (e, add-one, take-suc (ours n) j 0 inside) (rw at at (sets-snoc lent 0 (take j (ours n)) (getD (ours n) j 0)))
+    rw (e, add-one, take-suc (ours n) j 0 inside) (rw at at (sets-more lent 0 (take j (ours n)) (getD (ours n) j 0 ∷ [])))
 
 pub ours-all : (n j : ℕ) → 3 * n + 1 ≤ j → take j (ours n) ≡ ours n
 ours-all n j h = take-all j (ours n) (omega (arith, ours-length n))

@@ -1,12 +1,13 @@
 -- The laws of the bytes that a policy is written as. Assumes nothing.
 use mathlib.Core.Path.{_≡_, refl, ap, _∙_}
-use mathlib.Core.List.{List, [], _∷_, _++_}
+use mathlib.Core.List.{List, [], _∷_}
 use Prim.Native.Nat.{ℕ, zero, suc, _+_, _-_, _*_, _/_, _%_, _≤_, _<_}
-use native.Mathlib.Nat.{add-zero, suc-mul}
+use native.Mathlib.Nat.{suc-mul}
 use native.Mathlib.Omega.{arith}
 use lib.ListN.{length, getD, take, drop, set, length-append, length-take, length-drop, drop-of-length-le}
 use lib.Seq.{drop-cons, getD-take, getD-drop, length-take-le, sets}
 use Rattle.beliefs.specs.Policy.{mirrored, row, rowBytes, rowsBytes}
+use Rattle.beliefs.proofs.Lists.{sets-more}
 
 pub length-row-bytes : (k w : ℕ) → length (rowBytes k w) ≡ k
 unfolding rowBytes
@@ -25,10 +26,6 @@ length-rows-of p n h l = length-take-le n (drop 3 p) (omega (arith, length-drop 
 
 pub row-written : (p : List ℕ) (n s : ℕ) → s < n → getD (take n (drop 3 p)) s 0 ≡ row p s
 row-written p n s h = getD-take n (drop 3 p) s 0 h ∙ getD-drop 3 p s 0
-
-sets-more : (l : List ℕ) (i : ℕ) (vs ws : List ℕ) → sets (sets l i vs) (i + length vs) ws ≡ sets l i (vs ++ ws)
-sets-more l i [] ws = rw (add-zero i)
-sets-more l i (v ∷ vs) ws = let e : i + suc (length vs) ≡ suc i + length vs = omega arith in rw e (sets-more (set l i v) (suc i) vs ws)
 
 -- a row is stored from its first byte to its last: one of them, and the rest after it
 pub put-turn : (l : List ℕ) (at k n w : ℕ) → k < n

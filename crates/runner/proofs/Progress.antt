@@ -16,15 +16,10 @@ use Rattle.beliefs.specs.Account.{Account, told, before, Reports}
 use Rattle.beliefs.specs.Policy.{valid}
 use Rattle.beliefs.specs.Stack.{Frame}
 use Rattle.beliefs.specs.Trace.{answerByte, served, runFrom, run}
+use Rattle.beliefs.proofs.Lists.{sets-more}
 use Rattle.runner.specs.Progress.{barred, decodedAt, Answered, Stopped}
 
--- stores, and answers, one after the other
-pub sets-more : (l : List ℕ) (i : ℕ) (vs ws : List ℕ) → sets (sets l i vs) (i + length vs) ws ≡ sets l i (vs ++ ws)
-sets-more l i [] ws = ap (λ (n : ℕ). sets l n ws) (add-zero i)
-sets-more l i (v ∷ vs) ws =
-    let e : i + suc (length vs) ≡ suc i + length vs = omega arith in
-    ap (λ (n : ℕ). sets (sets (set l i v) (suc i) vs) n ws) e ∙ sets-more (set l i v) (suc i) vs ws
-
+-- answers, one after the other
 before-more : (vs ws : List ℕ) (a : Account) → before vs (before ws a) ≡ before (vs ++ ws) a
 before-more vs ws a = ap (λ (l : List ℕ). record { number = a .number; figure = a .figure; written = l }) (sym (append-assoc vs ws (a .written)))
 
