@@ -1,7 +1,7 @@
 -- The three demands. Each theorem stands under the mission's sentence that it answers, and speaks of document 01's definitions and of the
 -- promises of the functions alone. Assumes nothing.
 use mathlib.Core.Path.{_≡_, sym, _∙_}
-use mathlib.Core.Logic.{_≢_}
+use mathlib.Core.Logic.{_≢_, _↔_}
 use mathlib.Core.Bool.{Bool, true, false}
 use mathlib.Core.List.{List, _∷_, map}
 use Prim.Native.Nat.{ℕ, _+_, _*_, _≤_, _<_}
@@ -88,7 +88,16 @@ pub shown : (p : List ℕ) → valid p ≡ true → (f : Frame) (r : List Frame)
     → Settled p t (f ∷ r) (walk p t (map marked (f ∷ r)) .looked)
 shown = settled
 
--- A walk state that pictures that stack has its frames: there our writer, given room, writes those 3n + 1 steps for a granted check, and no other byte.
+-- The same of the checker on a walk state that pictures that stack: steps that it accepts there exist exactly when the belief sets grant the check.
+pub shown-on-state : (p s : List ℕ) (f : Frame) (r : List Frame) (t : ℕ) → valid p ≡ true → walk-state.fits p s ≡ true → walk-stack.Pictures p s (f ∷ r) → Reached p (f ∷ r) → t < targets p
+    → ((steps : List ℕ) × (promised.checking p s t steps .number ≡ 0)) ↔ (granted p t (f ∷ r) ≡ true)
+unfolding promised.checking
+shown-on-state p s f r t v ok h reach l =
+    let k = settled p v f r reach t l in
+    let same : (steps : List ℕ) → promised.checking p s t steps ≡ judged p (map marked (f ∷ r)) t steps = λ steps. rw (v, ok, h .same) in
+    (λ x. k .exactly .0 (x .0, rw (same (x .0)) at (x .1)), λ g. let y = k .exactly .1 g in (y .0, rw (same (y .0)) (y .1)))
+
+-- And there our writer, given room, writes those 3n + 1 steps for a granted check, and no other byte.
 pub written-down : (p s : List ℕ) (f : Frame) (r : List Frame) (t : ℕ) → valid p ≡ true → walk-state.fits p s ≡ true → walk-stack.Pictures p s (f ∷ r) → t < targets p → granted p t (f ∷ r) ≡ true
     → (n : ℕ) → n ≡ walk p t (map marked (f ∷ r)) .looked → (lent left : List ℕ) (q : Report) → 3 * n + 1 ≤ length lent → Reports q lent left (promised.writing p s t (length lent))
     → (q .number ≡ 0) × (q .figure ≡ 3 * n + 1) × (left ≡ sets lent 0 (ours n))
