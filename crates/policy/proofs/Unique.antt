@@ -10,7 +10,7 @@ use Rattle.beliefs.specs.Account.{Reports}
 use Rattle.beliefs.specs.Policy.{signers, targets, row, permits, valid, writing}
 use Rattle.beliefs.specs.Stack.{full}
 use Rattle.beliefs.proofs.Unique.{reports-unique}
-use Rattle.policy.specs.Read.{PolicyRead}
+use Rattle.policy.specs.Read.{PolicyRead, cutAt}
 
 pub is-full-unique : (p : List ℕ) (r q : Bool) → r ≡ full p → q ≡ full p → r ≡ q
 is-full-unique p r q = one-result
@@ -29,6 +29,9 @@ permits-unique p s t r q = one-result
 
 pub valid-unique : (p : List ℕ) (r q : Bool) → r ≡ valid p → q ≡ valid p → r ≡ q
 valid-unique p r q = one-result
+
+pub cut-unique : (bytes : List ℕ) (r q : ℕ) → r ≡ cutAt bytes → q ≡ cutAt bytes → r ≡ q
+cut-unique bytes r q = one-result
 
 -- the number, and what is left in the lent value
 pub read-unique : (bytes lent : List ℕ) (r q : ℕ) (left other : List ℕ)

@@ -11,7 +11,7 @@ ghost use Rattle.beliefs.specs.Policy.{signers, targets, row, permits, within, 
 ghost use Rattle.beliefs.specs.Policy.{width, size, mirrored, rowOf, rowBytes, rowsOf, rowsBytes, header, headSigners, headTargets, headed};
 ghost use Rattle.beliefs.specs.Policy.{readNumber, valueRead, bytesWritten, writing};
 ghost use Rattle.beliefs.specs.Stack.{full};
-ghost use Rattle.policy.specs.Read.{PolicyRead};
+ghost use Rattle.policy.specs.Read.{PolicyRead, cutAt};
 
 // Whether the start is full.
 pub fn is_full(policy: &[u64; 35]) -> bool
@@ -216,6 +216,23 @@ fn read_number(bytes: &[u8]) -> u8
         return beliefs::BIT_SET;
     }
     beliefs::ACCEPTED
+}
+
+// How many bytes at the front of a recording are its policy's, by the header: the trace begins there. All of them where the
+// header or the rows fall short, which reading them then refuses.
+pub fn cut(bytes: &[u8]) -> usize
+    ensures { λ r. ⌜ r ≡ cutAt (now (bytes .entry)) ⌝ }
+{
+    if bytes.len() < 2 {
+        return bytes.len();
+    }
+    let h = header(bytes);
+    let wanted = size(head_signers(h), head_targets(h)) as usize;
+    if wanted < bytes.len() {
+        wanted
+    } else {
+        bytes.len()
+    }
 }
 
 // The value that accepted bytes say, into the policy.
