@@ -1,0 +1,287 @@
+// The C boundary: one function for each line of include/galmuvesh.h, thin over the crates below. An array crosses as a plain
+// pointer, a slice as a pointer and then a length.
+ghost use mathlib.Core.Path.{_≡_};
+ghost use mathlib.Core.Bool.{true, false};
+ghost use lib.ListN.{length};
+ghost use Rattle.beliefs.specs.declared.Operation.the-variants.{Call, Enable, Disable, Revert};
+ghost use Rattle.beliefs.specs.Account.{Reports};
+ghost use Rattle.beliefs.specs.Policy as policies;
+ghost use Rattle.beliefs.specs.Trace.{run};
+ghost use Rattle.beliefs.specs.Engine.{Operate};
+ghost use Rattle.policy.specs.Read.{PolicyRead, cutAt};
+ghost use Rattle.walk.specs.State as walks;
+ghost use Rattle.walk.specs.Coherent as stacks;
+ghost use Rattle.record.specs.Record as records;
+ghost use Rattle.record.specs.Pictures as chains;
+ghost use Rattle.derivation.specs.Promise.{checking, writing, Tells};
+ghost use Rattle.galmuvesh.specs.Boundary.{report, passedIn, wordsOf, numberOf, byteOf, leftBy, movedBy, Moves, Asks};
+use beliefs::Answer;
+use beliefs::Operation;
+use passed::Next;
+use passed::Passed;
+
+// A policy from its bytes.
+#[no_mangle]
+pub extern "C" fn galmuvesh_policy_read(bytes: &[u8], policy: &mut [u64; 35]) -> u8
+    ensures { λ r. ⌜ PolicyRead (now (bytes .entry)) (now (policy .entry)) r (now (policy .exit)) ⌝ }
+{
+    policy::read(bytes, policy)
+}
+
+// How many bytes at the front of a recording are its policy's.
+#[no_mangle]
+pub extern "C" fn galmuvesh_policy_cut(bytes: &[u8]) -> usize
+    ensures { λ r. ⌜ r ≡ cutAt (now (bytes .entry)) ⌝ }
+{
+    policy::cut(bytes)
+}
+
+// The policy's one byte form.
+#[no_mangle]
+pub extern "C" fn galmuvesh_policy_write(
+    policy: &[u64; 35],
+    bytes: &mut [u8],
+    figure: &mut u64,
+) -> u8
+    ensures { λ r. ⌜ Reports (report r (now (figure .exit))) (now (bytes .entry)) (now (bytes .exit)) (policies.writing (now (policy .entry)) (length (now (bytes .entry)))) ⌝ }
+{
+    let report = policy::write(policy, bytes);
+    *figure = report.figure;
+    report.number
+}
+
+// A trace from a fresh start, by the walk.
+#[no_mangle]
+pub extern "C" fn galmuvesh_walk_run(
+    policy: &[u64; 35],
+    trace: &[u8],
+    answers: &mut [u8],
+    figure: &mut u64,
+) -> u8
+    ensures { λ r. ⌜ Reports (report r (now (figure .exit))) (now (answers .entry)) (now (answers .exit)) (run true (now (policy .entry)) (now (trace .entry)) (length (now (answers .entry)))) ⌝ }
+{
+    let report = runner::walk_run(policy, trace, answers);
+    *figure = report.figure;
+    report.number
+}
+
+// The same by the belief record.
+#[no_mangle]
+pub extern "C" fn galmuvesh_record_run(
+    policy: &[u64; 35],
+    trace: &[u8],
+    answers: &mut [u8],
+    figure: &mut u64,
+) -> u8
+    ensures { λ r. ⌜ Reports (report r (now (figure .exit))) (now (answers .entry)) (now (answers .exit)) (run false (now (policy .entry)) (now (trace .entry)) (length (now (answers .entry)))) ⌝ }
+{
+    let report = runner::record_run(policy, trace, answers);
+    *figure = report.figure;
+    report.number
+}
+
+// The same by the passed state.
+#[no_mangle]
+pub extern "C" fn galmuvesh_passed_run(
+    policy: &[u64; 35],
+    trace: &[u8],
+    answers: &mut [u8],
+    figure: &mut u64,
+) -> u8
+    ensures { λ r. ⌜ Reports (report r (now (figure .exit))) (now (answers .entry)) (now (answers .exit)) (run false (now (policy .entry)) (now (trace .entry)) (length (now (answers .entry)))) ⌝ }
+{
+    let report = runner::passed_run(policy, trace, answers);
+    *figure = report.figure;
+    report.number
+}
+
+// One operation word on a live walk state.
+#[no_mangle]
+pub extern "C" fn galmuvesh_walk_operate(
+    policy: &[u64; 35],
+    state: &mut [u64; 190],
+    word: u16,
+    answer: &mut u8,
+) -> u8
+    ensures { λ r. ⌜ Operate (stacks.Pictures (now (policy .entry))) true (walks.fits (now (policy .entry)) (now (state .entry))) (walks.stepIn (now (policy .entry)) (now (state .entry))) (now (policy .entry)) (now (state .entry)) word r (now (answer .entry)) (now (answer .exit)) (now (state .exit)) ⌝ }
+{
+    walk::operate(policy, state, word, answer)
+}
+
+// The same on a live belief record.
+#[no_mangle]
+pub extern "C" fn galmuvesh_record_operate(
+    policy: &[u64; 35],
+    state: &mut [u64; 4096],
+    word: u16,
+    answer: &mut u8,
+) -> u8
+    ensures { λ r. ⌜ Operate (chains.Pictures (now (policy .entry))) false (records.recordFits (now (policy .entry)) (now (state .entry))) (records.stepIn (now (policy .entry)) (now (state .entry))) (now (policy .entry)) (now (state .entry)) word r (now (answer .entry)) (now (answer .exit)) (now (state .exit)) ⌝ }
+{
+    record::operate(policy, state, word, answer)
+}
+
+// Four words as a passed state.
+fn passed_in(state: &[u64; 4]) -> Passed
+    ensures { λ r. ⌜ r ≡ passedIn (now (state .entry)) ⌝ }
+{
+    Passed {
+        depth: state[0],
+        signer: state[1],
+        own: state[2],
+        callers: state[3],
+    }
+}
+
+// A passed state into its four words.
+fn put(state: &mut [u64; 4], s: Passed)
+    ensures { λ _. ⌜ now (state .exit) ≡ wordsOf s ⌝ }
+{
+    // As a slice, so that its length is known.
+    let whole: &[u64] = state;
+    state[0] = s.depth;
+    state[1] = s.signer;
+    state[2] = s.own;
+    state[3] = s.callers;
+}
+
+// Where an operation leads, into the four words; a refusal leaves them alone.
+fn lead(state: &mut [u64; 4], next: Next) -> u8
+    ensures { λ r. ⌜ (r ≡ numberOf next) × (now (state .exit) ≡ leftBy (now (state .entry)) next) ⌝ }
+{
+    match next {
+        Next::Stay(s, _) => {
+            put(state, s);
+            beliefs::ACCEPTED
+        }
+        Next::Down(s) => {
+            put(state, s);
+            beliefs::ACCEPTED
+        }
+        Next::Up => beliefs::ACCEPTED,
+        Next::Refused(number) => number,
+    }
+}
+
+// One operation on the four words.
+fn operate(policy: &[u64; 35], state: &mut [u64; 4], op: Operation) -> u8
+    ensures { λ r. ⌜ (r ≡ movedBy (now (policy .entry)) (now (state .entry)) op .number) × (now (state .exit) ≡ movedBy (now (policy .entry)) (now (state .entry)) op .state) ⌝ }
+{
+    let next = passed::operate(policy, passed_in(state), op);
+    lead(state, next)
+}
+
+// The state becomes the callee's; the caller keeps its own.
+#[no_mangle]
+pub extern "C" fn galmuvesh_passed_call(policy: &[u64; 35], state: &mut [u64; 4], signer: u8) -> u8
+    ensures { λ r. ⌜ Moves (now (policy .entry)) (now (state .entry)) (Call signer) r (now (state .exit)) ⌝ }
+{
+    operate(policy, state, Operation::Call(signer))
+}
+
+// The frame enables a target.
+#[no_mangle]
+pub extern "C" fn galmuvesh_passed_enable(
+    policy: &[u64; 35],
+    state: &mut [u64; 4],
+    target: u8,
+) -> u8
+    ensures { λ r. ⌜ Moves (now (policy .entry)) (now (state .entry)) (Enable target) r (now (state .exit)) ⌝ }
+{
+    operate(policy, state, Operation::Enable(target))
+}
+
+// The frame disables a target.
+#[no_mangle]
+pub extern "C" fn galmuvesh_passed_disable(
+    policy: &[u64; 35],
+    state: &mut [u64; 4],
+    target: u8,
+) -> u8
+    ensures { λ r. ⌜ Moves (now (policy .entry)) (now (state .entry)) (Disable target) r (now (state .exit)) ⌝ }
+{
+    operate(policy, state, Operation::Disable(target))
+}
+
+// The frame reverts a target.
+#[no_mangle]
+pub extern "C" fn galmuvesh_passed_revert(
+    policy: &[u64; 35],
+    state: &mut [u64; 4],
+    target: u8,
+) -> u8
+    ensures { λ r. ⌜ Moves (now (policy .entry)) (now (state .entry)) (Revert target) r (now (state .exit)) ⌝ }
+{
+    operate(policy, state, Operation::Revert(target))
+}
+
+// The number and the answer byte of where an operation leads.
+fn answer_of(next: Next) -> Answer
+    ensures { λ r. ⌜ (r .number ≡ numberOf next) × (r .byte ≡ byteOf next) ⌝ }
+{
+    match next {
+        Next::Stay(_, byte) => Answer {
+            number: beliefs::ACCEPTED,
+            byte,
+        },
+        Next::Down(_) => Answer {
+            number: beliefs::ACCEPTED,
+            byte: 0,
+        },
+        Next::Up => Answer {
+            number: beliefs::ACCEPTED,
+            byte: 0,
+        },
+        Next::Refused(number) => Answer { number, byte: 0 },
+    }
+}
+
+// The frame checks a target.
+#[no_mangle]
+pub extern "C" fn galmuvesh_passed_check(
+    policy: &[u64; 35],
+    state: &[u64; 4],
+    target: u8,
+    answer: &mut u8,
+) -> u8
+    ensures { λ r. ⌜ Asks (now (policy .entry)) (now (state .entry)) target r (now (answer .entry)) (now (answer .exit)) ⌝ }
+{
+    let next = passed::operate(policy, passed_in(state), Operation::Check(target));
+    let done = answer_of(next);
+    if done.number == beliefs::ACCEPTED {
+        *answer = done.byte;
+    }
+    done.number
+}
+
+// The derivation of a granted check.
+#[no_mangle]
+pub extern "C" fn galmuvesh_derivation_write(
+    policy: &[u64; 35],
+    state: &[u64; 190],
+    target: u8,
+    steps: &mut [u8],
+    figure: &mut u64,
+) -> u8
+    ensures { λ r. ⌜ Reports (report r (now (figure .exit))) (now (steps .entry)) (now (steps .exit)) (writing (now (policy .entry)) (now (state .entry)) target (length (now (steps .entry)))) ⌝ }
+{
+    let report = derivation::write(policy, state, target, steps);
+    *figure = report.figure;
+    report.number
+}
+
+// Whether a derivation is accepted.
+#[no_mangle]
+pub extern "C" fn galmuvesh_derivation_check(
+    policy: &[u64; 35],
+    state: &[u64; 190],
+    target: u8,
+    steps: &[u8],
+    figure: &mut u64,
+) -> u8
+    ensures { λ r. ⌜ Tells (report r (now (figure .exit))) (checking (now (policy .entry)) (now (state .entry)) target (now (steps .entry))) ⌝ }
+{
+    let report = derivation::check(policy, state, target, steps);
+    *figure = report.figure;
+    report.number
+}
