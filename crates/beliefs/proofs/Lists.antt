@@ -3,14 +3,15 @@ use mathlib.Core.Path.{_≡_, refl, sym, ap, ap₂, _∙_}
 use mathlib.Core.Bool.{Bool, true, false, cond, _&&_, _||_, and-false, and-true, and-assoc}
 use mathlib.Core.List.{List, [], _∷_, _++_, map}
 use mathlib.Core.Logic.{_≢_}
-use Prim.Native.Nat.{ℕ, zero, suc, _+_, _<_}
+use Prim.Native.Nat.{ℕ, zero, suc, _+_, _≤_, _<_}
 use native.Mathlib.Numerals.{add-one}
 use native.Mathlib.Omega.{arith}
 use lib.Dec.{eqb}
 use borrow.Author.Tests.{eqb-true, eqb-false}
-use native.Mathlib.Nat.{add-zero}
-use lib.ListN.{length, getD, set}
-use lib.Seq.{sets}
+use native.Mathlib.Nat.{add-zero, add-suc}
+use lib.ListN.{length, getD, set, take, drop, length-drop}
+use lib.Seq.{sets, getD-take, getD-drop, length-take-le}
+use Rattle.bits.specs.Bit.{below, allBelow}
 use Rattle.beliefs.specs.Lists.{any, all, keep, each}
 
 module _ {A : Type 0} where
@@ -80,6 +81,17 @@ unfolding each
 each-of f zero h = refl
 each-of f (suc n) h = rw (each-of f n (λ k l. h k (omega arith)), h n (omega arith))
 
+pub each-ext : (f g : ℕ → Bool) (n : ℕ) → ((k : ℕ) → k < n → f k ≡ g k) → each f n ≡ each g n
+unfolding each
+each-ext f g zero h = refl
+each-ext f g (suc n) h = rw (each-ext f g n (λ k l. h k (omega arith)), h n (omega arith))
+
+-- the numbers below a, and the others
+pub each-sum : (f : ℕ → Bool) (a b : ℕ) → each f (a + b) ≡ (each f a && each (λ k. f (a + k)) b)
+unfolding each
+each-sum f a zero = rw (add-zero a) (sym (and-true (each f a)))
+each-sum f a (suc b) = rw (add-suc a b) (ap (λ (x : Bool). x && f (a + b)) (each-sum f a b) ∙ and-assoc (each f a) (each (λ k. f (a + k)) b) (f (a + b)))
+
 each-first : (f : ℕ → Bool) (n : ℕ) → each f (suc n) ≡ (f 0 && each (λ k. f (suc k)) n)
 unfolding each
 each-first f zero = sym (and-true (f 0))
@@ -96,6 +108,20 @@ all-at f l h = each-at (λ k. f (getD l k 0)) (length l) (sym (all-each f l) ∙
 
 pub all-of : (f : ℕ → Bool) (l : List ℕ) → ((k : ℕ) → k < length l → f (getD l k 0) ≡ true) → all f l ≡ true
 all-of f l h = all-each f l ∙ each-of (λ k. f (getD l k 0)) (length l) h
+
+-- no word of a part of a list has a bit at n or above
+all-below : (l : List ℕ) (n : ℕ) → allBelow l n ≡ all (λ w. below w n) l
+unfolding allBelow
+all-below [] n = refl
+all-below (w ∷ l) n = ap (λ (x : Bool). below w n && x) (all-below l n)
+
+pub part-below : (l : List ℕ) (at k n : ℕ) → at + k ≤ length l → allBelow (take k (drop at l)) n ≡ each (λ i. below (getD l (at + i) 0) n) k
+part-below l at k n h =
+    let part : List ℕ = take k (drop at l) in
+    let long : length part ≡ k = length-take-le k (drop at l) (omega (arith, length-drop at l)) in
+    all-below part n ∙ all-each (λ w. below w n) part ∙ rw long
+    (each-ext (λ i. below (getD part i 0) n) (λ i. below (getD l (at + i) 0) n) k
+    (λ i m. ap (λ (w : ℕ). below w n) (getD-take k (drop at l) i 0 m ∙ getD-drop at l i 0)))
 
 -- stores into a lent buffer, one run after the other
 pub sets-more : (l : List ℕ) (i : ℕ) (vs ws : List ℕ) → sets (sets l i vs) (i + length vs) ws ≡ sets l i (vs ++ ws)

@@ -25,7 +25,7 @@ pub both : (a : Bool) {b : Bool} → (a && b) ≡ true → (a ≡ true) × (b �
 both true h = (refl, h)
 both false h = (h, cc)
 
-in-within : (n most : ℕ) → within n most ≡ true → (1 ≤ n) × (n ≤ most)
+pub in-within : (n most : ℕ) → within n most ≡ true → (1 ≤ n) × (n ≤ most)
 in-within n most h = let w = both (leb 1 n) h in (leb-true 1 n (w .0), leb-true n most (w .1))
 
 pub ranges : (p : List ℕ) → valid p ≡ true → Ranges p

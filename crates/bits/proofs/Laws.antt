@@ -1,16 +1,20 @@
 -- The laws of a bit, each stated once: what every operation on a word does to each of its bits, and what bounds a word. Assumes nothing.
 use mathlib.Core.Path.{_≡_, refl, sym, ap, _∙_}
-use mathlib.Core.Bool.{Bool, true, false, cond, not, _&&_, _||_, and-false}
+use mathlib.Core.List.{List}
+use mathlib.Core.Bool.{Bool, true, false, cond, not, _&&_, _||_, and-false, and-true, and-assoc}
 use Prim.Native.Nat.{ℕ, zero, suc, _+_, _-_, _*_, _/_, _%_, _^_, _≤_, _<_, min}
 use native.Mathlib.Nat.{div-eq-of-lt, mul-mod-left, one-mul, pow-suc, div-self, lt-of-lt-of-le, mod-lt, lt-of-le-of-lt, div-one, div-lt-iff-lt-mul, zero-div}
 use native.Mathlib.Omega.{arith}
 use lib.Dec.{eqb, ltb}
-use lib.Bits.{bitAnd, bitOr, bitXor, and-shr, or-shr, xor-shr, and-mod, or-mod, xor-mod, or-lt, xor-lt, and-le-l, and-comm, and-shifted, xor-zero-r}
+use lib.Bits.{bitAnd, bitOr, bitXor, and-shr, or-shr, xor-shr, and-mod, or-mod, xor-mod, or-lt, xor-lt, or-add-and, and-le-l, and-le-r, and-comm, and-shifted, xor-zero-r}
 use lib.Pow.{pow-pos, pow-lt, pow-mono, shl-exact, shl-shr, pow-add, shr-shr, ones-split, ones-lt, high, low}
 use lib.Arith.{bin-ind}
+use lib.ListN.{length, getD, drop, drop-of-length-le}
+use lib.Seq.{drop-cons}
+use native.Mathlib.Numerals.{add-one}
 use native.Mathlib.Decide.{decLt}
-use borrow.Author.Tests.{lt-ltb, le-ltb, eqb-true, eqb-false}
-use Rattle.bits.specs.Bit.{bit, withBit, withoutBit, below, lowest}
+use borrow.Author.Tests.{lt-ltb, le-ltb, ne-eqb, eqb-true, eqb-false}
+use Rattle.bits.specs.Bit.{bit, withBit, withoutBit, below, allBelow, lowest}
 
 -- one bit of 2 ^ t
 pow-bit-same : (t : ℕ) → 2 ^ t / 2 ^ t % 2 ≡ 1
@@ -199,3 +203,43 @@ below-bits n w t h = go (decLt t n)
     go : Dec (t < n) → (ltb t n && bit w t) ≡ bit w t
     go (yes l) = ap (λ (v : Bool). v && bit w t) (lt-ltb t n l)
     go (no l) = let none : bit w t ≡ false = bit-high n w t h (omega arith) in ap (λ (v : Bool). ltb t n && v) none ∙ and-false (ltb t n) ∙ sym none
+
+-- `below`, of two words' bits together
+pub below-or : (a b n : ℕ) → below (bitOr a b) n ≡ (below a n && below b n)
+unfolding below
+below-or a b n = go (decLt a (2 ^ n)) (decLt b (2 ^ n))
+  where
+    above-a : a ≤ bitOr a b
+    above-a = omega (arith, or-add-and a b, and-le-r a b)
+
+    above-b : b ≤ bitOr a b
+    above-b = omega (arith, or-add-and a b, and-le-l a b)
+
+    go : Dec (a < 2 ^ n) → Dec (b < 2 ^ n) → ltb (bitOr a b) (2 ^ n) ≡ (ltb a (2 ^ n) && ltb b (2 ^ n))
+    go (yes h) (yes k) = rw (lt-ltb _ _ (or-lt n a b h k), lt-ltb _ _ h, lt-ltb _ _ k)
+    go (yes h) (no k) = rw (le-ltb (bitOr a b) (2 ^ n) (omega (arith, above-b)), lt-ltb _ _ h, le-ltb b (2 ^ n) (omega arith))
+    go (no h) k = rw (le-ltb (bitOr a b) (2 ^ n) (omega (arith, above-a)), le-ltb a (2 ^ n) (omega arith))
+
+pub below-nothing : (n : ℕ) → below 0 n ≡ true
+unfolding below
+below-nothing n = lt-ltb 0 (2 ^ n) (pow-pos n)
+
+-- a word with no bit at all
+pub below-none : (w : ℕ) → below w 0 ≡ eqb w 0
+unfolding below
+below-none zero = refl
+below-none (suc w) = le-ltb (suc w) 1 (omega arith) ∙ sym (ne-eqb (suc w) 0 (λ e. absurd (omega arith)))
+
+-- words one by one, with the bits of those before them together
+module _ (ws : List ℕ) (n : ℕ) where
+  pub all-below-start : allBelow ws n ≡ (below 0 n && allBelow (drop 0 ws) n)
+  all-below-start = rw (below-nothing n)
+
+  pub all-below-more : (together i : ℕ) → i < length ws
+      → (below together n && allBelow (drop i ws) n) ≡ (below (bitOr together (getD ws i 0)) n && allBelow (drop (i + 1) ws) n)
+  unfolding allBelow
+  all-below-more together i l = rw (drop-cons ws i 0 l, add-one, below-or together (getD ws i 0) n) (sym (and-assoc (below together n) (below (getD ws i 0) n) _))
+
+  pub all-below-end : (together i : ℕ) → length ws ≤ i → (below together n && allBelow (drop i ws) n) ≡ below together n
+  unfolding allBelow
+  all-below-end together i l = rw (drop-of-length-le ws l) (and-true (below together n))

@@ -1,8 +1,9 @@
 -- Each promise fixes its result: of two results that both keep it, one is the other. Assumes nothing.
 use mathlib.Core.Path.{_≡_, sym, _∙_}
 use mathlib.Core.Bool.{Bool}
+use mathlib.Core.List.{List}
 use Prim.Native.Nat.{ℕ}
-use Rattle.bits.specs.Bit.{bit, withBit, withoutBit, below, lowest}
+use Rattle.bits.specs.Bit.{bit, withBit, withoutBit, below, allBelow, lowest}
 
 -- the law behind every one of them
 pub one-result {ℓ} : {A : Type ℓ} {x r s : A} → r ≡ x → s ≡ x → r ≡ s
@@ -19,6 +20,9 @@ without-unique w t r s = one-result
 
 pub fits-unique : (w n : ℕ) (r s : Bool) → r ≡ below w n → s ≡ below w n → r ≡ s
 fits-unique w n r s = one-result
+
+pub all-fit-unique : (ws : List ℕ) (n : ℕ) (r s : Bool) → r ≡ allBelow ws n → s ≡ allBelow ws n → r ≡ s
+all-fit-unique ws n r s = one-result
 
 pub ones-unique : (n r s : ℕ) → r ≡ lowest n → s ≡ lowest n → r ≡ s
 ones-unique n r s = one-result

@@ -1,5 +1,6 @@
 -- A word as a set of numbers: `bit w t` says that 2 ^ t is one of the powers of 2 that w is the sum of.
-use mathlib.Core.Bool.{Bool, cond}
+use mathlib.Core.Bool.{Bool, true, cond, _&&_}
+use mathlib.Core.List.{List, [], _∷_}
 use Prim.Native.Nat.{ℕ, _-_, _/_, _%_, _^_, min}
 use lib.Dec.{eqb, ltb}
 use lib.Bits.{bitAnd, bitOr, bitXor}
@@ -18,6 +19,11 @@ withoutBit w t = bitXor w (bitAnd w (2 ^ t))
 -- no bit at n or above
 unfoldable pub below : ℕ → ℕ → Bool
 below w n = ltb w (2 ^ n)
+
+-- in any of these words
+unfoldable pub allBelow : List ℕ → ℕ → Bool
+allBelow [] n = true
+allBelow (w ∷ ws) n = below w n && allBelow ws n
 
 -- the bits below n, of the 64 that there are
 unfoldable pub lowest : ℕ → ℕ

@@ -1,6 +1,6 @@
 // One bit of a 64-bit word: a word is a set of the numbers 0 to 63.
 ghost use mathlib.Core.Path.{_≡_};
-ghost use Rattle.bits.specs.Bit.{bit, withBit, withoutBit, below, lowest};
+ghost use Rattle.bits.specs.Bit.{bit, withBit, withoutBit, below, allBelow, lowest};
 
 // Whether bit t of w is set. No bit from 64 on is.
 pub fn has(w: u64, t: u8) -> bool
@@ -28,6 +28,19 @@ pub fn fits(w: u64, n: u64) -> bool
     ensures { λ r. ⌜ r ≡ below w n ⌝ }
 {
     if n < 64 { w < (1u64 << n) } else { true }
+}
+
+// Whether none of the words has a bit at n or above. One test of their bits together is quicker than one for each.
+pub fn all_fit(words: &[u64], n: u64) -> bool
+    ensures { λ r. ⌜ r ≡ allBelow (now (words .entry)) n ⌝ }
+{
+    let mut together: u64 = 0;
+    let mut i: usize = 0;
+    while i < words.len() {
+        together = together | words[i];
+        i += 1;
+    }
+    fits(together, n)
 }
 
 // The bits below n: all 64 where n is 64 or more.

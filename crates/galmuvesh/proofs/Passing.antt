@@ -8,19 +8,18 @@ use Prim.Native.Nat.{ℕ}
 use native.Mathlib.Omega.{arith}
 use lib.Dec.{eqb, ltb}
 use lib.ListN.{length}
+use borrow.Author.Tests.{eqb-true}
 use Rattle.beliefs.specs.declared.Operation.{Operation}
 use Rattle.beliefs.specs.declared.Operation.the-variants.{Call, Return, Enable, Disable, Revert, Check}
 use Rattle.beliefs.specs.Policy.{valid}
 use Rattle.beliefs.specs.Stack.{Frame, called}
 use Rattle.beliefs.specs.Trace.{refuse, done, step}
 use Rattle.beliefs.specs.Engine.{inside}
-use Rattle.beliefs.proofs.Engine.{Mirrors, refused-mirrors}
-use Rattle.passed.specs.declared.Next.{Next}
-use Rattle.passed.specs.declared.Next.the-variants.{Stay, Down, Up, Refused}
-use Rattle.passed.specs.State.{barredOf, nextOf, ledTo, passedFits, outsideOf, operateOf}
+use Rattle.passed.specs.declared.Next.the-variants.{Refused}
+use Rattle.passed.specs.State.{checkOf, answerOf, unless, ledTo, passedFits, refusalOf, operateOf}
 use Rattle.passed.specs.Picture.{PassedOf, Goes}
 use Rattle.passed.proofs.Serves.{operates}
-use Rattle.galmuvesh.specs.Boundary.{passedIn, numberOf, byteOf, leftBy, movedBy, Moves, Asks}
+use Rattle.galmuvesh.specs.Boundary.{passedIn, wordsOf, after, Follows, Moves, Says, Asks}
 
 -- a refused operation is the definition's refusal, whichever it is
 step-refuses : (p : List ℕ) (op : Operation) (st : List Frame) → step p op st .number ≢ 0 → step p op st ≡ refuse (step p op st .number) st
@@ -42,13 +41,7 @@ step-refuses p (Revert t) (f ∷ r) nz = absurd (nz refl)
 step-refuses p (Check t) [] nz = refl
 step-refuses p (Check t) (f ∷ r) nz = absurd (nz refl)
 
--- only a return leads up
-abbrev up : Next → Bool
-up (Stay s b) = false
-up (Down s) = false
-up Up = true
-up (Refused n) = false
-
+-- an operation of the newest frame, on the four words: refused, it leaves words and stack; else the words after it picture the stack after it
 abbrev pub returns : Operation → Bool
 returns (Call g) = false
 returns Return = true
@@ -57,59 +50,49 @@ returns (Disable t) = false
 returns (Revert t) = false
 returns (Check t) = false
 
-either : (e : Bool) (a b : Next) → up a ≡ false → up b ≡ false → up (cond e a b) ≡ false
-either true a b h k = h
-either false a b h k = k
-
-led-up : (p s : List ℕ) (op : Operation) → returns op ≡ false → up (ledTo p (passedIn s) op) ≡ false
+led : (p s : List ℕ) (op : Operation) (st : List Frame) → returns op ≡ false → Goes p st (step p op st) (ledTo p (passedIn s) op)
+    → Follows p 0 (wordsOf (after p (passedIn s) op)) (step p op st)
 unfolding ledTo
-led-up p s (Call g) e = refl
-led-up p s Return e = e
-led-up p s (Enable t) e = refl
-led-up p s (Disable t) e = refl
-led-up p s (Revert t) e = refl
-led-up p s (Check t) e = refl
+led p s (Call g) st e x = record { number = sym (x .number); pictures = x .pictures }
+led p s Return st e x = let z : _≡_ {A = ℕ} 0 1 = cc in absurd (omega arith)
+led p s (Enable t) st e x = record { number = sym (x .number); pictures = x .pictures }
+led p s (Disable t) st e x = record { number = sym (x .number); pictures = x .pictures }
+led p s (Revert t) st e x = record { number = sym (x .number); pictures = x .pictures }
+led p s (Check t) st e x = record { number = sym (x .number); pictures = x .pictures }
 
-never-up : (p s : List ℕ) (op : Operation) → returns op ≡ false → up (operateOf p (passedIn s) op) ≡ false
-unfolding operateOf nextOf
-never-up p s op e =
-    either (valid p) _ _
-    (either (passedFits p (passedIn s)) _ _
-    (either (eqb (outsideOf p op) 0) _ _ (either (eqb (barredOf (passedIn s .depth) op) 0) _ _ (led-up p s op e) refl) refl)
-    refl)
-    refl
+module _ (p s : List ℕ) (st : List Frame) (h : PassedOf p (passedIn s) st) (n : ℕ) where
+  follows : (op : Operation) → returns op ≡ false → (e : Bool) → eqb n 0 ≡ e → Goes p st (step p op st) (cond e (ledTo p (passedIn s) op) (Refused n))
+      → Follows p n (cond e (wordsOf (after p (passedIn s) op)) s) (step p op st)
+  follows op r true q g = rw (eqb-true n 0 q) (led p s op st r g)
+  follows op r false q g =
+      let same : step p op st ≡ refuse n st = step-refuses p op st (λ z. g .refused (g .number ∙ z)) ∙ ap (λ (k : ℕ). refuse k st) (sym (g .number)) in
+      record { number = g .number; pictures = rw same h }
 
--- the words picture a stack where the state that they are does
-abbrev Pictured : List ℕ → List ℕ → List Frame → Type 0
-Pictured p s st = PassedOf p (passedIn s) st
+  says : (t lent : ℕ) (e : Bool) → eqb n 0 ≡ e → Goes p st (step p (Check t) st) (cond e (ledTo p (passedIn s) (Check t)) (Refused n))
+      → Says n lent (cond e (answerOf (checkOf p (passedIn s) t)) lent) (step p (Check t) st)
+  unfolding ledTo
+  says t lent true q g = record { number = eqb-true n 0 q ∙ sym (g .number); answer = rw (g .number) (g .byte) }
+  says t lent false q g = record { number = g .number; answer = rw (← g .number, q) }
 
-mirrors : (p s : List ℕ) (op : Operation) (st : List Frame) → PassedOf p (passedIn s) st → (x : Next) → up x ≡ false
-    → Goes p st (step p op st) x → Mirrors (Pictured p) false (record { number = numberOf x; byte = byteOf x; state = leftBy s x }) (step p op st)
-mirrors p s op st h (Stay x b) e g = record { number = sym (g .number); byte = g .byte; pictures = g .pictures }
-mirrors p s op st h (Down x) e g = record { number = sym (g .number); byte = sym (g .byte); pictures = g .pictures }
-mirrors p s op st h Up e g = let z : _≡_ {A = ℕ} 0 1 = cc in absurd (omega arith)
-mirrors p s op st h (Refused n) e g =
-    let same : step p op st ≡ refuse n st = step-refuses p op st (λ z. g .refused (g .number ∙ z)) ∙ ap (λ (k : ℕ). refuse k st) (sym (g .number)) in
-    rw same (refused-mirrors (Pictured p) false n s st h)
-
-module _ (p s : List ℕ) (op : Operation) (e : returns op ≡ false) where
-  serves : valid p ≡ true → passedFits p (passedIn s) ≡ true → inside p op ≡ true → (st : List Frame) → PassedOf p (passedIn s) st
-      → Mirrors (Pictured p) false (movedBy p s op) (step p op st)
-  unfolding movedBy
-  serves v f i st h = mirrors p s op st h (operateOf p (passedIn s) op) (never-up p s op e) (operates p (passedIn s) op _ refl .serves v f i st h)
+module _ (p s : List ℕ) where
+  goes : (op : Operation) → valid p ≡ true → passedFits p (passedIn s) ≡ true → inside p op ≡ true → (st : List Frame) → PassedOf p (passedIn s) st
+      → Goes p st (step p op st) (unless (refusalOf p (passedIn s) op) (ledTo p (passedIn s) op))
+  unfolding operateOf
+  goes op v f i st h = operates p (passedIn s) op v f i st h
 
   -- what is exactly given keeps the promise of call, enable, disable and revert
-  pub moves-by : (n : ℕ) (left : List ℕ) → n ≡ movedBy p s op .number → left ≡ movedBy p s op .state → Moves p s op n left
-  moves-by n left a b = record {
-    number = a;
-    state = b;
-    serves = λ v f i st h. let m = serves v f i st h in record { number = a ∙ m .number; pictures = rw b (m .pictures) };
-  }
+  pub moves-by : (op : Operation) → returns op ≡ false → (n : ℕ) (left : List ℕ) → n ≡ refusalOf p (passedIn s) op
+      → left ≡ cond (eqb n 0) (wordsOf (after p (passedIn s) op)) s → Moves p s op n left
+  moves-by op r n left a b = rw a (record {
+    number = refl;
+    state = rw a at b;
+    serves = λ v f i st h. rw (b, a) (follows p s st h (refusalOf p (passedIn s) op) op r (eqb (refusalOf p (passedIn s) op) 0) refl (goes op v f i st h));
+  })
 
--- and that of check
-pub asks-by : (p s : List ℕ) (t n lent byte : ℕ) → n ≡ movedBy p s (Check t) .number → byte ≡ cond (eqb (movedBy p s (Check t) .number) 0) (movedBy p s (Check t) .byte) lent → Asks p s t n lent byte
-asks-by p s t n lent byte a b = record {
-  number = a;
-  answer = b;
-  serves = λ v f i st h. let m = serves p s (Check t) refl v f i st h in record { number = a ∙ m .number; answer = b ∙ rw (m .number, m .byte) };
-}
+  -- and that of check
+  pub asks-by : (t n lent byte : ℕ) → n ≡ refusalOf p (passedIn s) (Check t) → byte ≡ cond (eqb n 0) (answerOf (checkOf p (passedIn s) t)) lent → Asks p s t n lent byte
+  asks-by t n lent byte a b = rw a (record {
+    number = refl;
+    answer = rw a at b;
+    serves = λ v f i st h. rw (b, a) (says p s st h (refusalOf p (passedIn s) (Check t)) t lent (eqb (refusalOf p (passedIn s) (Check t)) 0) refl (goes (Check t) v f i st h));
+  })

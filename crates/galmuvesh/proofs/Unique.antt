@@ -13,7 +13,6 @@ use Rattle.beliefs.specs.Account.{Account, Reports}
 use Rattle.beliefs.specs.Policy as policy
 use Rattle.beliefs.specs.Trace.{run}
 use Rattle.beliefs.specs.Engine.{Operate}
-use Rattle.beliefs.proofs.Unique as beliefs
 use Rattle.policy.specs.Read.{PolicyRead, cutAt}
 use Rattle.policy.proofs.Unique.{read-unique, cut-unique}
 use Rattle.walk.specs.State as walk

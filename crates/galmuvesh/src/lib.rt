@@ -14,10 +14,8 @@ ghost use Rattle.walk.specs.Coherent as stacks;
 ghost use Rattle.record.specs.Record as records;
 ghost use Rattle.record.specs.Pictures as chains;
 ghost use Rattle.derivation.specs.Promise.{checking, writing, Tells};
-ghost use Rattle.galmuvesh.specs.Boundary.{report, passedIn, wordsOf, numberOf, byteOf, leftBy, movedBy, Moves, Asks};
-use beliefs::Answer;
+ghost use Rattle.galmuvesh.specs.Boundary.{report, passedIn, wordsOf, Moves, Asks};
 use beliefs::Operation;
-use passed::Next;
 use passed::Passed;
 
 // A policy from its bytes.
@@ -145,38 +143,17 @@ fn put(state: &mut [u64; 4], s: Passed)
     state[3] = s.callers;
 }
 
-// Where an operation leads, into the four words; a refusal leaves them alone.
-fn lead(state: &mut [u64; 4], next: Next) -> u8
-    ensures { λ r. ⌜ (r ≡ numberOf next) × (now (state .exit) ≡ leftBy (now (state .entry)) next) ⌝ }
-{
-    match next {
-        Next::Stay(s, _) => {
-            put(state, s);
-            beliefs::ACCEPTED
-        }
-        Next::Down(s) => {
-            put(state, s);
-            beliefs::ACCEPTED
-        }
-        Next::Up => beliefs::ACCEPTED,
-        Next::Refused(number) => number,
-    }
-}
-
-// One operation on the four words.
-fn operate(policy: &[u64; 35], state: &mut [u64; 4], op: Operation) -> u8
-    ensures { λ r. ⌜ (r ≡ movedBy (now (policy .entry)) (now (state .entry)) op .number) × (now (state .exit) ≡ movedBy (now (policy .entry)) (now (state .entry)) op .state) ⌝ }
-{
-    let next = passed::operate(policy, passed_in(state), op);
-    lead(state, next)
-}
-
 // The state becomes the callee's; the caller keeps its own.
 #[no_mangle]
 pub extern "C" fn galmuvesh_passed_call(policy: &[u64; 35], state: &mut [u64; 4], signer: u8) -> u8
     ensures { λ r. ⌜ Moves (now (policy .entry)) (now (state .entry)) (Call signer) r (now (state .exit)) ⌝ }
 {
-    operate(policy, state, Operation::Call(signer))
+    let s = passed_in(state);
+    let number = passed::refusal(policy, s, Operation::Call(signer));
+    if number == beliefs::ACCEPTED {
+        put(state, s.call(policy, signer));
+    }
+    number
 }
 
 // The frame enables a target.
@@ -188,7 +165,12 @@ pub extern "C" fn galmuvesh_passed_enable(
 ) -> u8
     ensures { λ r. ⌜ Moves (now (policy .entry)) (now (state .entry)) (Enable target) r (now (state .exit)) ⌝ }
 {
-    operate(policy, state, Operation::Enable(target))
+    let s = passed_in(state);
+    let number = passed::refusal(policy, s, Operation::Enable(target));
+    if number == beliefs::ACCEPTED {
+        put(state, s.enable(target));
+    }
+    number
 }
 
 // The frame disables a target.
@@ -200,7 +182,12 @@ pub extern "C" fn galmuvesh_passed_disable(
 ) -> u8
     ensures { λ r. ⌜ Moves (now (policy .entry)) (now (state .entry)) (Disable target) r (now (state .exit)) ⌝ }
 {
-    operate(policy, state, Operation::Disable(target))
+    let s = passed_in(state);
+    let number = passed::refusal(policy, s, Operation::Disable(target));
+    if number == beliefs::ACCEPTED {
+        put(state, s.disable(target));
+    }
+    number
 }
 
 // The frame reverts a target.
@@ -212,28 +199,12 @@ pub extern "C" fn galmuvesh_passed_revert(
 ) -> u8
     ensures { λ r. ⌜ Moves (now (policy .entry)) (now (state .entry)) (Revert target) r (now (state .exit)) ⌝ }
 {
-    operate(policy, state, Operation::Revert(target))
-}
-
-// The number and the answer byte of where an operation leads.
-fn answer_of(next: Next) -> Answer
-    ensures { λ r. ⌜ (r .number ≡ numberOf next) × (r .byte ≡ byteOf next) ⌝ }
-{
-    match next {
-        Next::Stay(_, byte) => Answer {
-            number: beliefs::ACCEPTED,
-            byte,
-        },
-        Next::Down(_) => Answer {
-            number: beliefs::ACCEPTED,
-            byte: 0,
-        },
-        Next::Up => Answer {
-            number: beliefs::ACCEPTED,
-            byte: 0,
-        },
-        Next::Refused(number) => Answer { number, byte: 0 },
+    let s = passed_in(state);
+    let number = passed::refusal(policy, s, Operation::Revert(target));
+    if number == beliefs::ACCEPTED {
+        put(state, s.revert(target));
     }
+    number
 }
 
 // The frame checks a target.
@@ -246,12 +217,12 @@ pub extern "C" fn galmuvesh_passed_check(
 ) -> u8
     ensures { λ r. ⌜ Asks (now (policy .entry)) (now (state .entry)) target r (now (answer .entry)) (now (answer .exit)) ⌝ }
 {
-    let next = passed::operate(policy, passed_in(state), Operation::Check(target));
-    let done = answer_of(next);
-    if done.number == beliefs::ACCEPTED {
-        *answer = done.byte;
+    let s = passed_in(state);
+    let number = passed::refusal(policy, s, Operation::Check(target));
+    if number == beliefs::ACCEPTED {
+        *answer = passed::answer(s.check(policy, target));
     }
-    done.number
+    number
 }
 
 // The derivation of a granted check.

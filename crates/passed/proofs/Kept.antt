@@ -21,7 +21,7 @@ use Rattle.beliefs.specs.Stack.{full, startMarks}
 use Rattle.passed.specs.declared.Passed.{Passed}
 use Rattle.passed.specs.declared.Next.{Next}
 use Rattle.passed.specs.declared.Next.the-variants.{Stay, Down, Up, Refused}
-use Rattle.passed.specs.State.{fresh, grantedOf, callOf, unless, barredOf, ledTo, nextOf, passedFits, outsideOf, operateOf}
+use Rattle.passed.specs.State.{fresh, grantedOf, callOf, unless, barredOf, ledTo, nextOf, passedFits, outsideOf, refusalOf, operateOf}
 use Rattle.beliefs.proofs.Policy.{ranges}
 use Rattle.passed.proofs.Fits.{Framed, fits-framed, framed-fits}
 
@@ -106,12 +106,12 @@ unfolding passedFits
 fresh-fits p = refl
 
 pub operate-fits : (p : List ℕ) (s : Passed) (op : Operation) → Fit p (operateOf p s op)
-unfolding operateOf nextOf
-operate-fits p s op = go (valid p) refl (passedFits p s) refl
+unfolding operateOf refusalOf
+operate-fits p s op = unless-fits p (ledTo p s op) (refusalOf p s op) (go (valid p) refl (passedFits p s) refl (eqb (outsideOf p op) 0) refl)
   where
-    go : (v : Bool) → valid p ≡ v → (f : Bool) → passedFits p s ≡ f
-        → Fit p (cond v (cond f (unless (outsideOf p op) (nextOf p s op)) (Refused badState)) (Refused badPolicy))
-    go false q f z = tt
-    go true q false z = tt
-    go true q true z =
-        unless-fits p (nextOf p s op) (outsideOf p op) (λ o. unless-fits p (ledTo p s op) (barredOf (s .depth) op) (led-fits p s (ranges p q .targets-most) z op o))
+    go : (v : Bool) → valid p ≡ v → (f : Bool) → passedFits p s ≡ f → (o : Bool) → eqb (outsideOf p op) 0 ≡ o
+        → cond v (cond f (cond o (barredOf (s .depth) op) (outsideOf p op)) badState) badPolicy ≡ 0 → Fit p (ledTo p s op)
+    go false q f z o w e = absurd (omega arith)
+    go true q false z o w e = absurd (omega arith)
+    go true q true z false w e = absurd (eqb-false (outsideOf p op) 0 w e)
+    go true q true z true w e = led-fits p s (ranges p q .targets-most) z op (eqb-true (outsideOf p op) 0 w) e

@@ -22,8 +22,8 @@ use Rattle.beliefs.proofs.Granted.{granted-split, own-enable, own-disable, own-
 use Rattle.passed.specs.declared.Passed.{Passed}
 use Rattle.passed.specs.declared.Next.{Next}
 use Rattle.passed.specs.declared.Next.the-variants.{Down}
-use Rattle.passed.specs.State.{fresh, grantedOf, callOf, enableOf, disableOf, revertOf, checkOf, answerOf, barredOf, unless, ledTo, nextOf, passedFits, outsideOf, operateOf}
-use Rattle.passed.specs.Picture.{Knows, PassedOf, Stays, Refuses, Goes, Passes, Operates}
+use Rattle.passed.specs.State.{fresh, grantedOf, callOf, enableOf, disableOf, revertOf, checkOf, answerOf, barredOf, unless, ledTo, nextOf, passedFits, outsideOf, refusalOf, operateOf}
+use Rattle.passed.specs.Picture.{Knows, PassedOf, Stays, Refuses, Goes, Passes}
 use Rattle.beliefs.proofs.Policy.{ranges}
 
 -- a bit of what goes down is the verdict of a check
@@ -163,8 +163,9 @@ inside-none p (Check t) i = rw i
 
 through : (p : List ℕ) (s : Passed) (op : Operation)
     → valid p ≡ true → passedFits p s ≡ true → inside p op ≡ true → operateOf p s op ≡ nextOf p s op
-unfolding operateOf
+unfolding operateOf refusalOf nextOf
 through p s op v f i = rw (v, f, inside-none p op i)
 
-pub operates : (p : List ℕ) (s : Passed) (op : Operation) (r : Next) → r ≡ operateOf p s op → Operates p s op r
-operates p s op r e = record { exact = e; serves = λ v f i st h. rw (e, through p s op v f i) (serves p s op v i st h) }
+pub operates : (p : List ℕ) (s : Passed) (op : Operation) → valid p ≡ true → passedFits p s ≡ true → inside p op ≡ true
+    → (st : List Frame) → PassedOf p s st → Goes p st (step p op st) (operateOf p s op)
+operates p s op v f i st h = rw (through p s op v f i) (serves p s op v i st h)

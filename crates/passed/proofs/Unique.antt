@@ -7,8 +7,8 @@ use Rattle.bits.proofs.Unique.{one-result}
 use Rattle.beliefs.specs.declared.Operation.{Operation}
 use Rattle.passed.specs.declared.Passed.{Passed}
 use Rattle.passed.specs.declared.Next.{Next}
-use Rattle.passed.specs.State.{fresh, callOf, enableOf, disableOf, revertOf, checkOf, passedFits}
-use Rattle.passed.specs.Picture.{Passes, Operates}
+use Rattle.passed.specs.State.{fresh, callOf, enableOf, disableOf, revertOf, checkOf, answerOf, passedFits, refusalOf}
+use Rattle.passed.specs.Picture.{Passes}
 
 pub fresh-unique : (r q : Passed) → r ≡ fresh → q ≡ fresh → r ≡ q
 fresh-unique r q = one-result
@@ -28,11 +28,14 @@ revert-unique s t r q = one-result
 pub check-unique : (p : List ℕ) (s : Passed) (t : ℕ) (r q : Bool) → r ≡ checkOf p s t → q ≡ checkOf p s t → r ≡ q
 check-unique p s t r q = one-result
 
+pub answer-unique : (granted : Bool) (r q : ℕ) → r ≡ answerOf granted → q ≡ answerOf granted → r ≡ q
+answer-unique granted r q = one-result
+
 pub serve-unique : (p : List ℕ) (s : Passed) (op : Operation) (r q : Next) → Passes p s op r → Passes p s op q → r ≡ q
 serve-unique p s op r q h k = one-result (h .exact) (k .exact)
 
 pub valid-unique : (p : List ℕ) (s : Passed) (r q : Bool) → r ≡ passedFits p s → q ≡ passedFits p s → r ≡ q
 valid-unique p s r q = one-result
 
-pub operate-unique : (p : List ℕ) (s : Passed) (op : Operation) (r q : Next) → Operates p s op r → Operates p s op q → r ≡ q
-operate-unique p s op r q h k = one-result (h .exact) (k .exact)
+pub refusal-unique : (p : List ℕ) (s : Passed) (op : Operation) (r q : ℕ) → r ≡ refusalOf p s op → q ≡ refusalOf p s op → r ≡ q
+refusal-unique p s op r q = one-result

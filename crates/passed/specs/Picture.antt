@@ -15,7 +15,7 @@ use Rattle.beliefs.specs.Engine.{inside, inherited}
 use Rattle.passed.specs.declared.Passed.{Passed}
 use Rattle.passed.specs.declared.Next.{Next}
 use Rattle.passed.specs.declared.Next.the-variants.{Stay, Down, Up, Refused}
-use Rattle.passed.specs.State.{fresh, nextOf, passedFits, operateOf}
+use Rattle.passed.specs.State.{fresh, nextOf}
 
 -- of the newest frame: its signer; each target whose Ok(T) itself it holds; each target on which it holds a belief that came
 -- down with a call and whose every frame has a signer permitted it
@@ -78,8 +78,3 @@ Goes p st o (Refused n) = Refuses o n
 pub record Passes (p : List ℕ) (s : Passed) (op : Operation) (r : Next) : Type 0 where
   pub exact : r ≡ nextOf p s op
   pub serves : valid p ≡ true → inside p op ≡ true → (st : List Frame) → PassedOf p s st → Goes p st (step p op st) r
-
--- the same on any policy and state, with their refusals
-pub record Operates (p : List ℕ) (s : Passed) (op : Operation) (r : Next) : Type 0 where
-  pub exact : r ≡ operateOf p s op
-  pub serves : valid p ≡ true → passedFits p s ≡ true → inside p op ≡ true → (st : List Frame) → PassedOf p s st → Goes p st (step p op st) r

@@ -109,9 +109,12 @@ outsideOf p (Disable t) = aimed p t
 outsideOf p (Revert t) = aimed p t
 outsideOf p (Check t) = aimed p t
 
--- one operation on any policy and state: 13, 14, 5 or 6, 7, 8
-unfoldable pub operateOf : List ℕ → Passed → Operation → Next
-operateOf p s op =
+-- what refuses an operation on any policy and state: 13, 14, 5 or 6, 7, 8; 0 for nothing
+unfoldable pub refusalOf : List ℕ → Passed → Operation → ℕ
+refusalOf p s op =
     cond (valid p)
-    (cond (passedFits p s) (unless (outsideOf p op) (nextOf p s op)) (Refused badState))
-    (Refused badPolicy)
+    (cond (passedFits p s) (cond (eqb (outsideOf p op) 0) (barredOf (s .depth) op) (outsideOf p op)) badState)
+    badPolicy
+
+unfoldable pub operateOf : List ℕ → Passed → Operation → Next
+operateOf p s op = unless (refusalOf p s op) (ledTo p s op)

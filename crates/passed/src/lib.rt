@@ -1,8 +1,8 @@
 // The passed state: what a frame needs to know of its callers, a bit for each target. It goes down with a call as an argument.
 ghost use mathlib.Core.Path.{_≡_};
 ghost use Rattle.beliefs.specs.Stack.{startMarks};
-ghost use Rattle.passed.specs.State.{fresh, grantedOf, callOf, enableOf, disableOf, revertOf, checkOf, answerOf, barredOf, nothingIn, bitsFit, passedFits, outsideOf};
-ghost use Rattle.passed.specs.Picture.{Passes, Operates};
+ghost use Rattle.passed.specs.State.{fresh, grantedOf, callOf, enableOf, disableOf, revertOf, checkOf, answerOf, barredOf, nothingIn, bitsFit, passedFits, outsideOf, refusalOf};
+ghost use Rattle.passed.specs.Picture.{Passes};
 use beliefs::Operation;
 
 // The depth at which a call is refused.
@@ -150,7 +150,7 @@ fn barred(depth: u64, op: Operation) -> u8
 }
 
 // The answer byte of a check.
-fn answer(granted: bool) -> u8
+pub fn answer(granted: bool) -> u8
     ensures { λ r. ⌜ r ≡ answerOf granted ⌝ }
 {
     if granted { GRANTED } else { FORBIDDEN }
@@ -244,19 +244,19 @@ fn outside(policy: &[u64; 35], op: Operation) -> u8
     }
 }
 
-// One operation on any policy and state: 13, 14, 5 or 6, 7, 8, else where it leads.
-pub fn operate(policy: &[u64; 35], s: Passed, op: Operation) -> Next
-    ensures { λ r. ⌜ Operates (now (policy .entry)) s op r ⌝ }
+// What refuses an operation on any policy and state: 13, 14, 5 or 6, 7, 8, else 0. The methods above do what is let through.
+pub fn refusal(policy: &[u64; 35], s: Passed, op: Operation) -> u8
+    ensures { λ r. ⌜ r ≡ refusalOf (now (policy .entry)) s op ⌝ }
 {
     if !policy::valid(policy) {
-        return Next::Refused(beliefs::BAD_POLICY);
+        return beliefs::BAD_POLICY;
     }
     if !valid(policy, s) {
-        return Next::Refused(beliefs::BAD_STATE);
+        return beliefs::BAD_STATE;
     }
     let number = outside(policy, op);
     if number != 0 {
-        return Next::Refused(number);
+        return number;
     }
-    serve(policy, s, op)
+    barred(s.depth, op)
 }

@@ -6,3 +6,4 @@ pub mod Written
 pub mod Value
 pub mod Accepted
 pub mod Rows
+pub mod Fits

@@ -52,28 +52,17 @@ pub fn permits(policy: &[u64; 35], signer: u64, target: u8) -> bool
     bits::has(row(policy, signer), target)
 }
 
-// Whether row s is as number 13 asks: below S no target at N or above, from S on nothing.
-fn row_fits(policy: &[u64; 35], s: u64) -> bool
-    ensures { λ r. ⌜ r ≡ rowFits (now (policy .entry)) s ⌝ }
-{
-    if s < signers(policy) {
-        bits::fits(row(policy, s), targets(policy))
-    } else {
-        row(policy, s) == 0
-    }
-}
-
+// Whether the rows are as number 13 asks: below S no target at N or above, from S on nothing.
 fn rows_fit(policy: &[u64; 35]) -> bool
+    requires { ⌜ signers (now policy) ≤ 32 ⌝ }
     ensures { λ r. ⌜ r ≡ each (rowFits (now (policy .entry))) 32 ⌝ }
 {
-    let mut s: u64 = 0;
-    while s < 32 {
-        if !row_fits(policy, s) {
-            return false;
-        }
-        s += 1;
+    let whole: &[u64] = policy;
+    let past = 3 + signers(policy) as usize;
+    if !bits::all_fit(&whole[3..past], targets(policy)) {
+        return false;
     }
-    true
+    bits::all_fit(&whole[past..35], 0)
 }
 
 // Whether n is from 1 to `most`.

@@ -6,13 +6,7 @@ use Prim.Native.Nat.{ℕ, zero, suc, _<_}
 use native.Mathlib.Omega.{arith}
 use lib.Dec.{eqb}
 use borrow.Author.Tests.{eqb-true, eqb-false, eq-eqb}
-use Rattle.beliefs.specs.Lists.{each}
 use Rattle.record.specs.Record.{some}
-
-pub each-ext : (f g : ℕ → Bool) (n : ℕ) → ((i : ℕ) → i < n → f i ≡ g i) → each f n ≡ each g n
-unfolding each
-each-ext f g zero h = refl
-each-ext f g (suc n) h = rw (each-ext f g n (λ i l. h i (omega arith)), h n (omega arith))
 
 module _ (f : ℕ → Bool) where
   pub some-false : (n : ℕ) → ((k : ℕ) → k < n → f k ≡ false) → some f n ≡ false

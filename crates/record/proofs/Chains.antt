@@ -13,7 +13,8 @@ use Rattle.beliefs.specs.Policy.{permits}
 use Rattle.beliefs.specs.Stack.{Principal, Belief, Frame, on, permitted, granted}
 use Rattle.record.specs.Record.{depth, signerAt, some, grantedIn}
 use Rattle.record.specs.Pictures.{principals, AllFounded, withLength, FramesPictured, Pictures}
-use Rattle.record.proofs.Below.{each-ext, some-false, some-ext, some-or, some-one}
+use Rattle.beliefs.proofs.Lists.{each-ext}
+use Rattle.record.proofs.Below.{some-false, some-ext, some-or, some-one}
 
 -- a chain is no longer than the frames below
 pub chain-short : (r : List Frame) (b : Belief) → b .chain ≡ take (length (b .chain)) (principals r) → length (b .chain) ≤ length r

@@ -1,20 +1,16 @@
 -- What stands in a list after a run of words was stored, and what it is that no word of a run has a bit from n on. Assumes nothing.
 use mathlib.Core.Path.{_≡_, refl, _∙_}
-use mathlib.Core.Bool.{Bool, true, false, _&&_}
+use mathlib.Core.Bool.{Bool, true, false}
 use mathlib.Core.List.{List}
 use mathlib.Core.Logic.{_≢_}
 use Prim.Native.Nat.{ℕ, zero, suc, _+_, _-_, _*_, _^_, _≤_, _<_}
 use native.Mathlib.Numerals.{add-one}
-use native.Mathlib.Decide.{decLt}
 use native.Mathlib.Omega.{arith}
-use lib.Dec.{eqb, ltb}
-use lib.Bits.{bitOr, or-lt, or-add-and, and-le-l, and-le-r}
-use lib.Pow.{pow-pos}
+use lib.Dec.{eqb}
 use lib.ListN.{length, getD, set, length-set}
 use lib.Seq.{getD-set-same, getD-set-other}
-use borrow.Author.Tests.{lt-ltb, le-ltb, ltb-true, eq-eqb, ne-eqb, eqb-true, eqb-false}
+use borrow.Author.Tests.{lt-ltb, ltb-true, eq-eqb, ne-eqb, eqb-true, eqb-false}
 use Rattle.bits.specs.Bit.{below}
-use Rattle.beliefs.specs.Lists.{each}
 use Rattle.beliefs.proofs.Lists.{each-at, each-of}
 use Rattle.record.specs.Record.{depth, heldAt, held, filled, startWord, longer, handed, wordsBelow}
 
@@ -76,34 +72,6 @@ module _ (p s : List ℕ) where
   pub handed-down : (depth s ≢ 0) → filled (65 * depth s + 2) (λ t. longer (held s t)) 64 s ≡ filled (65 * depth s + 2) (handed p s) 64 s
   unfolding handed
   handed-down n = filled-ext (65 * depth s + 2) (λ t. longer (held s t)) (handed p s) s 64 (λ k l. rw (ne-eqb (depth s) 0 n))
-
--- the bits of two words together
-below-or : (a b n : ℕ) → below (bitOr a b) n ≡ (below a n && below b n)
-unfolding below
-below-or a b n = go (decLt a (2 ^ n)) (decLt b (2 ^ n))
-  where
-    above-a : a ≤ bitOr a b
-    above-a = omega (arith, or-add-and a b, and-le-r a b)
-
-    above-b : b ≤ bitOr a b
-    above-b = omega (arith, or-add-and a b, and-le-l a b)
-
-    go : Dec (a < 2 ^ n) → Dec (b < 2 ^ n) → ltb (bitOr a b) (2 ^ n) ≡ (ltb a (2 ^ n) && ltb b (2 ^ n))
-    go (yes h) (yes k) = rw (lt-ltb _ _ (or-lt n a b h k), lt-ltb _ _ h, lt-ltb _ _ k)
-    go (yes h) (no k) = rw (le-ltb (bitOr a b) (2 ^ n) (omega (arith, above-b)), lt-ltb _ _ h, le-ltb b (2 ^ n) (omega arith))
-    go (no h) k = rw (le-ltb (bitOr a b) (2 ^ n) (omega (arith, above-a)), le-ltb a (2 ^ n) (omega arith))
-
-module _ (s : List ℕ) (from n : ℕ) where
-  pub words-none : below 0 n ≡ wordsBelow s from from n
-  unfolding wordsBelow each below
-  words-none = let e : from - from ≡ 0 = omega arith in rw e (lt-ltb 0 (2 ^ n) (pow-pos n))
-
-  pub words-more : (together i : ℕ) → from ≤ i → below together n ≡ wordsBelow s from i n → below (bitOr together (getD s i 0)) n ≡ wordsBelow s from (i + 1) n
-  unfolding wordsBelow each
-  words-more together i l h =
-      let up : i + 1 - from ≡ suc (i - from) = omega arith in
-      let at : from + (i - from) ≡ i = omega arith in
-      rw (up, ← h, at) (below-or together (getD s i 0) n)
 
 -- one by one
 module _ (s : List ℕ) (from to n : ℕ) where

@@ -77,19 +77,13 @@ fn held(state: &[u64; 4096], target: u8) -> u64
     state[first + target as usize]
 }
 
-// Whether the words from one index up to another hold no length of n or above. One test of their bits together is
-// quicker than one for each.
+// Whether the words from one index up to another hold no length of n or above.
 fn words_below(state: &[u64; 4096], from: usize, to: usize, n: u64) -> bool
     requires { ⌜ (from ≤ to) × (to ≤ 4096) ⌝ }
     ensures { λ r. ⌜ r ≡ wordsBelow (now (state .entry)) from to n ⌝ }
 {
-    let mut together: u64 = 0;
-    let mut i = from;
-    while i < to {
-        together = together | state[i];
-        i += 1;
-    }
-    bits::fits(together, n)
+    let whole: &[u64] = state;
+    bits::all_fit(&whole[from..to], n)
 }
 
 // How many of a frame's 64 words are of targets below N.

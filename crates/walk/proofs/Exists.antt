@@ -8,18 +8,18 @@ use native.Mathlib.Nat.{lt-of-lt-of-le}
 use lib.Pow.{pow-mono}
 use lib.Dec.{eqb, ltb, leb}
 use lib.ListN.{getD, length}
-use borrow.Author.Tests.{eqb-true, lt-ltb, ltb-true, leb-true}
+use borrow.Author.Tests.{eqb-true, ltb-true, leb-true}
 use Rattle.bits.specs.Bit.{bit, below}
 use Rattle.bits.proofs.Laws.{below-bits}
 use Rattle.beliefs.specs.declared.Marked.{Marked}
-use Rattle.beliefs.specs.Lists.{any, all, keep, empty}
+use Rattle.beliefs.specs.Lists.{any, all, keep, empty, each}
 use Rattle.beliefs.specs.Stack.{Belief, Frame, on, own, said, permitted, granted, marked}
 use Rattle.beliefs.specs.Engine.{inherited}
 use Rattle.beliefs.specs.Policy.{signers, targets, valid}
 use Rattle.beliefs.proofs.Policy.{both, ranges}
 use Rattle.beliefs.proofs.Lists.{any-map, any-ext, any-and, any-never, any-keep, any-append, each-at}
 use Rattle.beliefs.proofs.Chosen.{chosen, chosen-any}
-use Rattle.walk.specs.State.{depth, frameAt, framesAt, frameFits, fits}
+use Rattle.walk.specs.State.{depth, frameAt, framesAt, inUse, fits}
 use Rattle.walk.specs.Coherent.{Sound, Coherent, Pictures}
 
 -- what a callee is handed
@@ -91,10 +91,10 @@ stack-pictured p s (suc k) low =
     (ap (λ (ms : List Marked). frameAt s k ∷ ms) (below .0), (stand-sound p (frameAt s k) (stack-of s k) (low k (omega arith)), below .1))
 
 -- a frame in use has no mark at 64 or above
-marks-low : (p s : List ℕ) → targets p ≤ 64 → (j : ℕ) → j < getD s 0 0 → frameFits p s j ≡ true → frameAt s j .enabled < 2 ^ 64
-unfolding frameFits below
-marks-low p s few j l h =
-    let a = both (ltb (frameAt s j .signer) (signers p)) (rw (lt-ltb _ _ l) at h) in
+marks-low : (p s : List ℕ) → targets p ≤ 64 → (j : ℕ) → inUse p s j ≡ true → frameAt s j .enabled < 2 ^ 64
+unfolding inUse below
+marks-low p s few j h =
+    let a = both (ltb (frameAt s j .signer) (signers p)) h in
     let b = both (ltb (frameAt s j .enabled) (2 ^ targets p)) (a .1) in
     lt-of-lt-of-le (ltb-true _ _ (b .0)) (pow-mono few)
 
@@ -104,7 +104,7 @@ pictured p s v h =
     let a = both (leb (getD s 0 0) 63) h in
     let room : getD s 0 0 ≤ 63 = leb-true _ _ (a .0) in
     let d : depth s ≡ getD s 0 0 = omega arith in
-    let low : (j : ℕ) → j < getD s 0 0 → frameAt s j .enabled < 2 ^ 64 = λ j l. marks-low p s (ranges p v .targets-most) j l (each-at (frameFits p s) 63 (a .1) j (omega arith)) in
+    let low : (j : ℕ) → j < getD s 0 0 → frameAt s j .enabled < 2 ^ 64 = λ j l. marks-low p s (ranges p v .targets-most) j (each-at (inUse p s) (depth s) (both (each (inUse p s) (depth s)) (a .1) .0) j (omega arith)) in
     let stack = stack-pictured p s (getD s 0 0) low in (
       stack-of s (getD s 0 0),
       record {

@@ -4,3 +4,4 @@ pub mod Agree
 pub mod Kept
 pub mod Exists
 pub mod Unique
+pub mod Fits

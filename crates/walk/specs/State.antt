@@ -32,17 +32,14 @@ abbrev pub frames : List ℕ → List Marked
 frames s = framesAt s (depth s)
 
 -- number 14: depth over 63, a frame's signer at S or above, a mark for a target at N or above, anything but zero above the depth
-abbrev pub inUse : ℕ → ℕ → Marked → Bool
-inUse s n m = ltb (m .signer) s && (below (m .enabled) n && below (m .disabled) n)
+unfoldable pub inUse : List ℕ → List ℕ → ℕ → Bool
+inUse p s k = ltb (frameAt s k .signer) (signers p) && (below (frameAt s k .enabled) (targets p) && below (frameAt s k .disabled) (targets p))
 
-abbrev pub unused : Marked → Bool
-unused m = eqb (m .signer) 0 && (eqb (m .enabled) 0 && eqb (m .disabled) 0)
-
-unfoldable pub frameFits : List ℕ → List ℕ → ℕ → Bool
-frameFits p s k = cond (ltb k (getD s 0 0)) (inUse (signers p) (targets p) (frameAt s k)) (unused (frameAt s k))
+unfoldable pub unused : List ℕ → ℕ → Bool
+unused s k = eqb (frameAt s k .signer) 0 && (eqb (frameAt s k .enabled) 0 && eqb (frameAt s k .disabled) 0)
 
 unfoldable pub fits : List ℕ → List ℕ → Bool
-fits p s = leb (getD s 0 0) 63 && each (frameFits p s) 63
+fits p s = leb (getD s 0 0) 63 && (each (inUse p s) (depth s) && each (λ k. unused s (depth s + k)) (63 - depth s))
 
 -- a frame stored above k others
 abbrev pub put : List ℕ → ℕ → Marked → List ℕ

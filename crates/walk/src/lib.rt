@@ -2,9 +2,10 @@
 ghost use mathlib.Core.Path.{_≡_};
 ghost use mathlib.Core.Bool.{true, cond};
 ghost use lib.Dec.{eqb};
+ghost use Rattle.beliefs.specs.Lists.{each};
 ghost use Rattle.beliefs.specs.Stack.{startMarks, walk};
 ghost use Rattle.beliefs.specs.Engine.{Gives, Serve, Operate};
-ghost use Rattle.walk.specs.State.{depth, frameAt, frames, put, remarked, markIn, callIn, returnIn, checkIn, stepIn, inUse, unused, frameFits, fits};
+ghost use Rattle.walk.specs.State.{depth, frameAt, frames, put, remarked, markIn, callIn, returnIn, checkIn, stepIn, inUse, fits};
 ghost use Rattle.walk.specs.Coherent.{Pictures};
 use beliefs::Answer;
 use beliefs::Decoded;
@@ -242,59 +243,39 @@ pub fn serve(policy: &[u64; 35], state: &mut [u64; 190], op: Operation) -> Answe
     }
 }
 
-// Whether a frame has a signer below S and marks for targets below N only.
-fn in_use(signers: u64, targets: u64, frame: Marked) -> bool
-    ensures { λ r. ⌜ r ≡ inUse signers targets frame ⌝ }
+// Whether every frame has a signer below S, and marks for targets below N only. One test of their marks together is quicker
+// than one for each.
+fn frames_fit(policy: &[u64; 35], state: &[u64; 190]) -> bool
+    ensures { λ r. ⌜ r ≡ each (inUse (now (policy .entry)) (now (state .entry))) (depth (now (state .entry))) ⌝ }
 {
-    if signers <= frame.signer {
-        return false;
+    let signers = policy::signers(policy);
+    let d = depth(state);
+    let mut marks: u64 = 0;
+    let mut k: u64 = 0;
+    while k < d {
+        let frame = frame_at(state, k);
+        if signers <= frame.signer {
+            return false;
+        }
+        marks = marks | frame.enabled | frame.disabled;
+        k += 1;
     }
-    if !bits::fits(frame.enabled, targets) {
-        return false;
-    }
-    bits::fits(frame.disabled, targets)
-}
-
-// Whether a frame is all zeros.
-fn is_unused(frame: Marked) -> bool
-    ensures { λ r. ⌜ r ≡ unused frame ⌝ }
-{
-    if frame.signer != 0 {
-        return false;
-    }
-    if frame.enabled != 0 {
-        return false;
-    }
-    frame.disabled == 0
-}
-
-// Whether the frame above k others, or the room for it, is as number 14 asks.
-fn frame_fits(policy: &[u64; 35], state: &[u64; 190], k: u64) -> bool
-    ensures { λ r. ⌜ r ≡ frameFits (now (policy .entry)) (now (state .entry)) k ⌝ }
-{
-    let frame = frame_at(state, k);
-    if k < state[0] {
-        in_use(policy::signers(policy), policy::targets(policy), frame)
-    } else {
-        is_unused(frame)
-    }
+    bits::fits(marks, policy::targets(policy))
 }
 
 // Whether number 14 does not refuse the state.
 pub fn valid(policy: &[u64; 35], state: &[u64; 190]) -> bool
     ensures { λ r. ⌜ r ≡ fits (now (policy .entry)) (now (state .entry)) ⌝ }
 {
+    let whole: &[u64] = state;
     if 63 < state[0] {
         return false;
     }
-    let mut k: u64 = 0;
-    while k < 63 {
-        if !frame_fits(policy, state, k) {
-            return false;
-        }
-        k += 1;
+    if !frames_fit(policy, state) {
+        return false;
     }
-    true
+    let above = (3 * depth(state) + 1) as usize;
+    bits::all_fit(&whole[above..190], 0)
 }
 
 // One operation word: 13, 14, 4, 3, 5 or 6, 7, 8. The answer byte is written only where it is accepted.

@@ -2,10 +2,12 @@
 use borrow.Author.Needs.{needs}
 use borrow.Author.Tests.{le-leb, lt-leb, not-true, not-false}
 use denote.Ref.{now}
-use mathlib.Core.Path.{_≡_}
+use mathlib.Core.Path.{_≡_, sym, _∙_}
 use mathlib.Core.Bool.{_&&_}
+use Prim.Native.Nat.{_≤_}
 use Rattle.beliefs.specs.Lists.{each}
 use Rattle.beliefs.specs.Policy.{targets, within, rowFits, valid}
+use Rattle.beliefs.proofs.Policy.{in-within}
 use Rattle.policy.proofs.valid.Statement.{statement}
 use Rattle.policy.proofs.valid.Tie as tie
 
@@ -54,7 +56,10 @@ returns-3 : tie.Need-returns-3
 returns-3 c = rw (past-targets (c .before), not-true (c .before .in-range2 .result) (c .if3 .taken))
 
 rows-fit-requires : tie.Need-rows-fit-requires
-rows-fit-requires c κs = search needs
+rows-fit-requires c κs =
+    let s = c .before .before .before .before .before .signers in
+    let few : s .result ≤ 32 = in-within (s .result) 32 (sym (c .before .before .before .before .in-range .ensures) ∙ not-false _ (c .before .before .before .if2 .left)) .1 in
+    rw (s .ensures) at few
 
 returns-4 : tie.Need-returns-4
 returns-4 c =

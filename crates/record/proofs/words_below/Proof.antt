@@ -1,57 +1,39 @@
--- The bits of the words up to i together are below n where those of each are.
+-- The words are a part of the state.
 use borrow.Author.Needs.{needs}
-use mathlib.Core.Path.{_≡_, _∙_}
-use Prim.Native.Nat.{_-_, _≤_}
 use native.Mathlib.Omega.{arith}
-use Rattle.bits.specs.Bit.{below}
+use mathlib.Core.Path.{_≡_, _∙_}
+use Prim.Native.Nat.{_-_}
+use lib.ListN.{length}
+use Rattle.beliefs.proofs.Lists.{part-below}
 use Rattle.record.specs.Record.{wordsBelow}
-use Rattle.record.proofs.Runs.{words-none, words-more}
 use Rattle.record.proofs.words_below.Statement.{statement}
 use Rattle.record.proofs.words_below.Tie as tie
 
-abbrev Inv-loop : tie.InvT-loop
-Inv-loop state from to n together₀ i₀ together i = (below together n ≡ wordsBelow state from i n) × ((from ≤ i) × (i ≤ to))
+long : (c : tie.After-whole) → length (c .before .args .state .now) ≡ 4096
+long c = search needs
 
-abbrev μ-loop : tie.MeasureT-loop
-μ-loop state from to n together₀ i₀ together i = to - i
+mul-all-fit : tie.Need-mul-all-fit
+mul-all-fit c = search needs
 
-loop-holds : tie.Need-loop-holds Inv-loop μ-loop
-loop-holds c = (words-none _ _ _, omega arith)
+sub-all-fit : tie.Need-sub-all-fit
+sub-all-fit c = search needs
 
-mul-together : tie.Need-mul-together Inv-loop μ-loop
-mul-together c = search needs
+part-all-fit-start : tie.Need-part-all-fit-start
+part-all-fit-start c = search needs
 
-element-copy-out-together : tie.Need-element-copy-out-together Inv-loop μ-loop
-element-copy-out-together c = search needs
+part-all-fit-end : tie.Need-part-all-fit-end
+part-all-fit-end c = search needs
 
-add-i : tie.Need-add-i Inv-loop μ-loop
-add-i c = search needs
+all-fit-requires : tie.Need-all-fit-requires
+all-fit-requires c κs = search needs
 
-loop-less : tie.Need-loop-less Inv-loop μ-loop
-loop-less c = search needs
-
-loop-again : tie.Need-loop-again Inv-loop μ-loop
-loop-again c = (words-more _ _ _ _ _ (omega arith) (c .before .before .loop .inv .0), omega arith)
-
-fits-requires : tie.Need-fits-requires Inv-loop μ-loop
-fits-requires c κs = search needs
-
-returns : tie.Need-returns Inv-loop μ-loop
+returns : tie.Need-returns
+unfolding wordsBelow
 returns c =
-    let e : c .before .before .loop .i ≡ c .before .before .before .args .to = omega arith in
-    c .fits2 .ensures ∙ rw e at (c .before .before .loop .inv .0)
+    let a = c .before .before .before .args in
+    c .all-fit .ensures ∙ part-below (a .state .now) (a .from) (a .to - a .from) (a .n) (omega (arith, c .before .before .before .pre .0, c .before .before .before .pre .1, long (c .before .before)))
 
 pub words-below-spec : {M : Type 1} → statement M
 words-below-spec =
     tie.close
-    (tie.spec
-    Inv-loop
-    μ-loop
-    loop-holds
-    mul-together
-    element-copy-out-together
-    add-i
-    loop-less
-    loop-again
-    fits-requires
-    returns)
+    (tie.spec mul-all-fit sub-all-fit part-all-fit-start part-all-fit-end all-fit-requires returns)

@@ -1,64 +1,76 @@
--- The frames below k fit, one more at each turn.
+-- The tests come in the definition's order; the room above the depth is one run of words (Fits).
 use borrow.Author.Needs.{needs}
 use borrow.Author.Tests.{le-leb, lt-leb, not-true, not-false}
-use mathlib.Core.Path.{_≡_, sym, _∙_}
-use mathlib.Core.Bool.{true}
-use Prim.Native.Nat.{_≤_, _-_}
+use mathlib.Core.Path.{_∙_}
 use native.Mathlib.Omega.{arith}
-use Rattle.beliefs.specs.Lists.{each}
-use Rattle.beliefs.proofs.Lists.{each-none, each-more, each-false}
-use Rattle.walk.specs.State.{fits, frameFits}
+use Rattle.walk.specs.State.{fits}
+use Rattle.walk.proofs.Fits.{room-above}
 use Rattle.walk.proofs.valid.Statement.{statement}
 use Rattle.walk.proofs.valid.Tie as tie
 
-abbrev Inv-loop : tie.InvT-loop
-Inv-loop policy state k₀ k = (each (frameFits policy state) k ≡ true) × (k ≤ 63)
-
-abbrev μ-loop : tie.MeasureT-loop
-μ-loop policy state k₀ k = 63 - k
-
-element-copy-out-if1 : tie.Need-element-copy-out-if1 Inv-loop μ-loop
+element-copy-out-if1 : tie.Need-element-copy-out-if1
 element-copy-out-if1 c = search needs
 
-returns : tie.Need-returns Inv-loop μ-loop
+returns : tie.Need-returns
 unfolding fits
 returns c = rw (lt-leb _ _ (c .if1 .taken))
 
-loop-holds : tie.Need-loop-holds Inv-loop μ-loop
-loop-holds c = (each-none _, omega arith)
+frames-fit-requires : tie.Need-frames-fit-requires
+frames-fit-requires c κs = search needs
 
-frame-fits-requires : tie.Need-frame-fits-requires Inv-loop μ-loop
-frame-fits-requires c κs = search needs
-
-returns-2 : tie.Need-returns-2 Inv-loop μ-loop
+returns-2 : tie.Need-returns-2
 unfolding fits
-returns-2 c = rw (le-leb _ _ (c .before .before .before .before .if1 .left), each-false _ 63 _ (c .before .before .loop-test .taken) (sym (c .before .frame-fits .ensures) ∙ not-true _ (c .if2 .taken)))
+returns-2 c = rw (le-leb _ _ (c .before .before .if1 .left), ← c .before .frames-fit .ensures, not-true (c .before .frames-fit .result) (c .if2 .taken))
 
-add-k : tie.Need-add-k Inv-loop μ-loop
-add-k c = search needs
+depth-requires : tie.Need-depth-requires
+depth-requires c κs = search needs
 
-loop-less : tie.Need-loop-less Inv-loop μ-loop
-loop-less c = search needs
+mul-above : tie.Need-mul-above
+mul-above c = search needs
 
-loop-again : tie.Need-loop-again Inv-loop μ-loop
-loop-again c = (each-more _ _ (c .before .before .before .loop .inv .0) (sym (c .before .frame-fits .ensures) ∙ not-false _ (c .if2 .left)), omega arith)
+add-above : tie.Need-add-above
+add-above c = search needs
 
-returns-3 : tie.Need-returns-3 Inv-loop μ-loop
+mul-all-fit : tie.Need-mul-all-fit
+mul-all-fit c = search needs
+
+sub-all-fit : tie.Need-sub-all-fit
+sub-all-fit c = search needs
+
+part-all-fit-start : tie.Need-part-all-fit-start
+part-all-fit-start c = search needs
+
+part-all-fit-end : tie.Need-part-all-fit-end
+part-all-fit-end c = search needs
+
+all-fit-requires : tie.Need-all-fit-requires
+all-fit-requires c κs = search needs
+
+returns-3 : tie.Need-returns-3
 unfolding fits
-returns-3 c = let e : c .before .loop .k ≡ 63 = omega arith in rw (le-leb _ _ (c .before .before .if1 .left)) (sym (rw e at (c .before .loop .inv .0)))
+returns-3 c =
+    rw (
+      le-leb _ _ (c .before .before .before .before .before .if1 .left),
+      ← c .before .before .before .before .frames-fit .ensures,
+      not-false (c .before .before .before .before .frames-fit .result) (c .before .before .before .if2 .left),
+      ← c .before .before .depth .ensures,
+    )
+    (c .all-fit .ensures ∙ room-above _ _ (search needs) (omega arith))
 
 pub valid-spec : {M : Type 1} → statement M
 valid-spec =
     tie.close
     (tie.spec
-    Inv-loop
-    μ-loop
     element-copy-out-if1
     returns
-    loop-holds
-    frame-fits-requires
+    frames-fit-requires
     returns-2
-    add-k
-    loop-less
-    loop-again
+    depth-requires
+    mul-above
+    add-above
+    mul-all-fit
+    sub-all-fit
+    part-all-fit-start
+    part-all-fit-end
+    all-fit-requires
     returns-3)

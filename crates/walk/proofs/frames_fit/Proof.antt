@@ -1,0 +1,85 @@
+-- The marks of the frames below k together are for targets below N exactly where those frames are as number 14 asks.
+use borrow.Author.Needs.{needs}
+use mathlib.Core.Path.{_≡_, sym, _∙_}
+use mathlib.Core.Bool.{false}
+use Prim.Native.Nat.{_-_, _≤_, _<_}
+use native.Mathlib.Omega.{arith}
+use Rattle.bits.specs.Bit.{below}
+use Rattle.beliefs.specs.Lists.{each}
+use Rattle.beliefs.specs.Policy as policies
+use Rattle.beliefs.proofs.Lists.{each-false}
+use Rattle.walk.specs.State.{depth, inUse}
+use Rattle.walk.proofs.Fits.{none-in-use, one-in-use, not-in-use}
+use Rattle.walk.proofs.frames_fit.Statement.{statement}
+use Rattle.walk.proofs.frames_fit.Tie as tie
+
+abbrev Inv-loop : tie.InvT-loop
+Inv-loop policy state signers d marks₀ k₀ marks k = (each (inUse policy state) k ≡ below marks (policies.targets policy)) × (k ≤ d)
+
+abbrev μ-loop : tie.MeasureT-loop
+μ-loop policy state signers d marks₀ k₀ marks k = d - k
+
+signers-requires : tie.Need-signers-requires Inv-loop μ-loop
+signers-requires c κs = search needs
+
+depth-requires : tie.Need-depth-requires Inv-loop μ-loop
+depth-requires c κs = search needs
+
+loop-holds : tie.Need-loop-holds Inv-loop μ-loop
+loop-holds c = (none-in-use _ _, omega arith)
+
+frame-at-requires : tie.Need-frame-at-requires Inv-loop μ-loop
+frame-at-requires c κs = search needs
+
+returns : tie.Need-returns Inv-loop μ-loop
+returns c =
+    let a = c .before .before .before .before .before .before .before .args in
+    let k = c .before .before .before .before .loop .k in
+    let bad : inUse (a .policy .now) (a .state .now) k ≡ false = not-in-use _ _ k (rw (← c .before .before .before .before .before .before .signers .ensures, ← c .before .before .frame-at .ensures) (c .if1 .taken)) in
+    let l : k < depth (a .state .now) = rw (← c .before .before .before .before .before .depth .ensures) (c .before .before .before .loop-test .taken) in
+    sym (each-false _ _ k l bad)
+
+add-k : tie.Need-add-k Inv-loop μ-loop
+add-k c = search needs
+
+loop-less : tie.Need-loop-less Inv-loop μ-loop
+loop-less c = search needs
+
+loop-again : tie.Need-loop-again Inv-loop μ-loop
+loop-again c =
+    let a = c .before .before .before .before .before .before .before .before .before .args in
+    let s = c .before .before .before .before .before .before .loop in
+    let m = c .before .before .before .before .frame-at in (
+      rw (m .ensures) (one-in-use (a .policy .now) (a .state .now) (s .k) (s .marks) (c .before .before .before .before .before .before .loop .inv .0)
+          (rw (← c .before .before .before .before .before .before .before .before .signers .ensures, ← c .before .before .before .before .frame-at .ensures) (c .before .before .if1 .left))),
+      omega arith,
+    )
+
+targets-requires : tie.Need-targets-requires Inv-loop μ-loop
+targets-requires c κs = search needs
+
+fits-requires : tie.Need-fits-requires Inv-loop μ-loop
+fits-requires c κs = search needs
+
+returns-2 : tie.Need-returns-2 Inv-loop μ-loop
+returns-2 c =
+    let e : c .before .before .before .loop .k ≡ c .before .before .before .before .depth .result = omega arith in
+    c .fits2 .ensures ∙ rw (← e ∙ c .before .before .before .before .depth .ensures, c .before .targets .ensures) (sym (c .before .before .before .loop .inv .0))
+
+pub frames-fit-spec : {M : Type 1} → statement M
+frames-fit-spec =
+    tie.close
+    (tie.spec
+    Inv-loop
+    μ-loop
+    signers-requires
+    depth-requires
+    loop-holds
+    frame-at-requires
+    returns
+    add-k
+    loop-less
+    loop-again
+    targets-requires
+    fits-requires
+    returns-2)
