@@ -1,20 +1,21 @@
 -- The laws of a bit, each stated once: what every operation on a word does to each of its bits, and what bounds a word. Assumes nothing.
 use mathlib.Core.Path.{_≡_, refl, sym, ap, _∙_}
 use mathlib.Core.List.{List}
-use mathlib.Core.Bool.{Bool, true, false, cond, not, _&&_, _||_, and-false, and-true, and-assoc}
+use mathlib.Core.Bool.{Bool, true, false, cond, not, _&&_, _||_, and-false, and-true, or-false, and-assoc}
+use mathlib.Core.Logic.{_≢_}
 use Prim.Native.Nat.{ℕ, zero, suc, _+_, _-_, _*_, _/_, _%_, _^_, _≤_, _<_, min}
 use native.Mathlib.Nat.{div-eq-of-lt, mul-mod-left, one-mul, pow-suc, div-self, lt-of-lt-of-le, mod-lt, lt-of-le-of-lt, div-one, div-lt-iff-lt-mul, zero-div}
 use native.Mathlib.Omega.{arith}
 use lib.Dec.{eqb, ltb}
-use lib.Bits.{bitAnd, bitOr, bitXor, and-shr, or-shr, xor-shr, and-mod, or-mod, xor-mod, or-lt, xor-lt, or-add-and, and-le-l, and-le-r, and-comm, and-shifted, xor-zero-r}
+use lib.Bits.{bitAnd, bitOr, bitXor, and-shr, or-shr, xor-shr, and-mod, or-mod, xor-mod, or-lt, xor-lt, or-add-and, and-le-l, and-le-r, and-comm, and-shifted, xor-zero-r, and-zero-r}
 use lib.Pow.{pow-pos, pow-lt, pow-mono, shl-exact, shl-shr, pow-add, shr-shr, ones-split, ones-lt, high, low}
 use lib.Arith.{bin-ind}
 use lib.ListN.{length, getD, drop, drop-of-length-le}
 use lib.Seq.{drop-cons}
 use native.Mathlib.Numerals.{add-one}
 use native.Mathlib.Decide.{decLt}
-use borrow.Author.Tests.{lt-ltb, le-ltb, ne-eqb, eqb-true, eqb-false}
-use Rattle.bits.specs.Bit.{bit, withBit, withoutBit, below, allBelow, lowest}
+use borrow.Author.Tests.{lt-ltb, le-ltb, ne-eqb, eq-eqb, eqb-true, eqb-false}
+use Rattle.bits.specs.Bit.{bit, withBit, withoutBit, meet, below, allBelow, lowest}
 
 -- one bit of 2 ^ t
 pow-bit-same : (t : ℕ) → 2 ^ t / 2 ^ t % 2 ≡ 1
@@ -243,3 +244,37 @@ module _ (ws : List ℕ) (n : ℕ) where
   pub all-below-end : (together i : ℕ) → length ws ≤ i → (below together n && allBelow (drop i ws) n) ≡ below together n
   unfolding allBelow
   all-below-end together i l = rw (drop-of-length-le ws l) (and-true (below together n))
+
+-- a set meets t alone where t is in it
+pub meet-alone : (w t : ℕ) → w < 2 ^ 64 → meet w (withBit 0 t) ≡ bit w t
+unfolding meet
+meet-alone w t h = go (decLt t 64)
+  where
+    both : ℕ
+    both = bitAnd w (withBit 0 t)
+
+    at : (u : ℕ) → t < 64 → bit both u ≡ (bit w u && eqb t u)
+    at u l = bit-and w (withBit 0 t) u ∙ ap (λ (x : Bool). bit w u && x) (bit-with 0 t u l ∙ ap (λ (x : Bool). eqb t u || x) (bit-none u) ∙ or-false (eqb t u))
+
+    none : t < 64 → bit w t ≡ false → both ≡ 0
+    none l e = let low : both < 2 ^ 0 = high-bits 0 both (λ u k. at u l ∙ other u (eqb t u) refl) in omega arith
+      where
+        other : (u : ℕ) (x : Bool) → eqb t u ≡ x → (bit w u && x) ≡ false
+        other u true q = rw (← eqb-true t u q, e)
+        other u false q = and-false (bit w u)
+
+    some : t < 64 → bit w t ≡ true → both ≢ 0
+    some l e z =
+        let yes-no : true ≡ false = cc (at t l, e, eq-eqb t t refl, ap (λ (x : ℕ). bit x t) z, bit-none t) in
+        let zero-one : _≡_ {A = ℕ} 0 1 = cc in
+        absurd (omega arith)
+
+    inside : t < 64 → (x : Bool) → bit w t ≡ x → not (eqb both 0) ≡ x
+    inside l true e = rw (ne-eqb both 0 (some l e))
+    inside l false e = rw (eq-eqb both 0 (none l e))
+
+    go : Dec (t < 64) → not (eqb both 0) ≡ bit w t
+    go (yes l) = inside l (bit w t) refl
+    go (no l) =
+        let out : withBit 0 t ≡ 0 = sym (with-out 0 t (omega arith)) in
+        rw (out, and-zero-r w, bit-high 64 w t h (omega arith))

@@ -3,7 +3,7 @@ use mathlib.Core.Path.{_≡_, sym, _∙_}
 use mathlib.Core.Bool.{Bool}
 use mathlib.Core.List.{List}
 use Prim.Native.Nat.{ℕ}
-use Rattle.bits.specs.Bit.{bit, withBit, withoutBit, below, allBelow, lowest}
+use Rattle.bits.specs.Bit.{bit, withBit, withoutBit, Meets, below, allBelow, lowest}
 
 -- the law behind every one of them
 pub one-result {ℓ} : {A : Type ℓ} {x r s : A} → r ≡ x → s ≡ x → r ≡ s
@@ -17,6 +17,9 @@ with-unique w t r s = one-result
 
 pub without-unique : (w t r s : ℕ) → r ≡ withoutBit w t → s ≡ withoutBit w t → r ≡ s
 without-unique w t r s = one-result
+
+pub meet-unique : (a b : ℕ) (r s : Bool) → Meets a b r → Meets a b s → r ≡ s
+meet-unique a b r s h k = one-result (h .exact) (k .exact)
 
 pub fits-unique : (w n : ℕ) (r s : Bool) → r ≡ below w n → s ≡ below w n → r ≡ s
 fits-unique w n r s = one-result

@@ -1,5 +1,6 @@
 -- A word as a set of numbers: `bit w t` says that 2 ^ t is one of the powers of 2 that w is the sum of.
-use mathlib.Core.Bool.{Bool, true, cond, _&&_}
+use mathlib.Core.Path.{_≡_}
+use mathlib.Core.Bool.{Bool, true, cond, not, _&&_}
 use mathlib.Core.List.{List, [], _∷_}
 use Prim.Native.Nat.{ℕ, _-_, _/_, _%_, _^_, min}
 use lib.Dec.{eqb, ltb}
@@ -15,6 +16,15 @@ withBit w t = cond (ltb t 64) (bitOr w (2 ^ t)) w
 -- t leaves the set
 unfoldable pub withoutBit : ℕ → ℕ → ℕ
 withoutBit w t = bitXor w (bitAnd w (2 ^ t))
+
+-- some number is in both sets
+unfoldable pub meet : ℕ → ℕ → Bool
+meet a b = not (eqb (bitAnd a b) 0)
+
+-- where b is t alone, that is whether t is in the other
+pub record Meets (a b : ℕ) (r : Bool) : Type 0 where
+  pub exact : r ≡ meet a b
+  pub alone : (t : ℕ) → b ≡ withBit 0 t → r ≡ bit a t
 
 -- no bit at n or above
 unfoldable pub below : ℕ → ℕ → Bool

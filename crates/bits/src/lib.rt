@@ -1,6 +1,6 @@
 // One bit of a 64-bit word: a word is a set of the numbers 0 to 63.
 ghost use mathlib.Core.Path.{_≡_};
-ghost use Rattle.bits.specs.Bit.{bit, withBit, withoutBit, below, allBelow, lowest};
+ghost use Rattle.bits.specs.Bit.{bit, withBit, withoutBit, Meets, below, allBelow, lowest};
 
 // Whether bit t of w is set. No bit from 64 on is.
 pub fn has(w: u64, t: u8) -> bool
@@ -21,6 +21,13 @@ pub fn without(w: u64, t: u8) -> u64
     ensures { λ r. ⌜ r ≡ withoutBit w t ⌝ }
 {
     if t < 64 { w ^ (w & (1u64 << t)) } else { w }
+}
+
+// Whether some bit is set in both. A test of one bit in many words makes the word of that bit once.
+pub fn meet(a: u64, b: u64) -> bool
+    ensures { λ r. ⌜ Meets a b r ⌝ }
+{
+    a & b != 0
 }
 
 // Whether w has no bit at n or above.

@@ -59,6 +59,7 @@ fn set_frame(state: &mut [u64; 190], k: u64, frame: Marked)
 pub fn check(policy: &[u64; 35], state: &[u64; 190], target: u8) -> Seen
     ensures { λ r. ⌜ r ≡ walk (now (policy .entry)) target (frames (now (state .entry))) ⌝ }
 {
+    let asked = bits::with(0, target);
     let mut left = depth(state);
     let mut looked: u64 = 0;
     loop {
@@ -71,19 +72,19 @@ pub fn check(policy: &[u64; 35], state: &[u64; 190], target: u8) -> Seen
         left -= 1;
         looked += 1;
         let frame = frame_at(state, left);
-        if !policy::permits(policy, frame.signer, target) {
+        if !bits::meet(policy::row(policy, frame.signer), asked) {
             break Seen {
                 granted: false,
                 looked,
             };
         }
-        if bits::has(frame.enabled, target) {
+        if bits::meet(frame.enabled, asked) {
             break Seen {
                 granted: true,
                 looked,
             };
         }
-        if bits::has(frame.disabled, target) {
+        if bits::meet(frame.disabled, asked) {
             break Seen {
                 granted: false,
                 looked,

@@ -26,7 +26,7 @@ returns c =
     let s = c .before .before .before .before .before .passed-in in
     let t = c .before .before .before .before .before .before .before .args .target in
     let n = c .before .before .before .before .refusal in
-    moves-by _ _ _ refl _ _ (rw (← s .ensures) (n .ensures)) 
+    moves-by _ _ _ refl _ _ (rw (← s .ensures) (n .ensures))
     (rw (eq-eqb _ _ (c .before .before .before .if1 .taken)) (c .put .ensures ∙ ap wordsOf (c .before .enable .ensures ∙ ap (λ (x : Passed). enableOf x t) (s .ensures))))
 
 returns-2 : tie.Need-returns-2

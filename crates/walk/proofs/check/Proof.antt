@@ -1,22 +1,36 @@
 -- The loop: what the whole walk finds is what the walk over the frames left finds, after the frames looked at.
 use borrow.Author.Needs.{needs}
 use borrow.Author.Tests.{not-true, not-false}
-use mathlib.Core.Path.{_≡_, sym, _∙_}
-use Prim.Native.Nat.{_+_}
+use mathlib.Core.Path.{_≡_, sym, ap, _∙_}
+use Prim.Native.Nat.{ℕ, _+_}
 use native.Mathlib.Omega.{arith}
+use Rattle.bits.specs.Bit.{bit}
+use Rattle.beliefs.specs.Policy.{permits}
 use Rattle.beliefs.specs.Stack.{walk}
 use Rattle.walk.specs.State.{depth, frames, framesAt}
 use Rattle.walk.proofs.Turn.{after, start, bottom, barred, enabled, disabled, onward}
 use Rattle.walk.proofs.check.Statement.{statement}
 use Rattle.walk.proofs.check.Tie as tie
 
--- The loop: what the whole walk finds is what the walk over the frames left finds, after the frames looked at.
-
 abbrev Inv-loop : tie.InvT-loop
-Inv-loop policy state target left₀ looked₀ left looked = (looked + left ≡ depth state) × (walk policy target (frames state) ≡ after looked (walk policy target (framesAt state left)))
+Inv-loop policy state target asked left₀ looked₀ left looked = (looked + left ≡ depth state) × (walk policy target (frames state) ≡ after looked (walk policy target (framesAt state left)))
 
 abbrev μ-loop : tie.MeasureT-loop
-μ-loop policy state target left₀ looked₀ left looked = left
+μ-loop policy state target asked left₀ looked₀ left looked = left
+
+-- each test of the word of the bit is the test of the bit
+permitted : (c : tie.After-meet Inv-loop μ-loop) → c .meet .result ≡ permits (c .before .before .before .before .before .before .before .args .policy .now) (c .before .before .frame-at .result .signer) (c .before .before .before .before .before .before .before .args .target)
+unfolding permits
+permitted c = c .meet .ensures .alone _ (c .before .before .before .before .before .before .with .ensures) ∙ ap (λ (w : ℕ). bit w (c .before .before .before .before .before .before .before .args .target)) (c .before .row .ensures)
+
+enabled-here : (c : tie.After-meet2 Inv-loop μ-loop) → c .meet2 .result ≡ bit (c .before .before .before .before .frame-at .result .enabled) (c .before .before .before .before .before .before .before .before .before .args .target)
+enabled-here c = c .meet2 .ensures .alone _ (c .before .before .before .before .before .before .before .before .with .ensures)
+
+disabled-here : (c : tie.After-meet3 Inv-loop μ-loop) → c .meet3 .result ≡ bit (c .before .before .before .before .before .before .frame-at .result .disabled) (c .before .before .before .before .before .before .before .before .before .before .before .args .target)
+disabled-here c = c .meet3 .ensures .alone _ (c .before .before .before .before .before .before .before .before .before .before .with .ensures)
+
+with-requires : tie.Need-with-requires Inv-loop μ-loop
+with-requires c κs = search needs
 
 depth-requires : tie.Need-depth-requires Inv-loop μ-loop
 depth-requires c κs = search needs
@@ -33,32 +47,35 @@ add-looked c = search needs
 frame-at-requires : tie.Need-frame-at-requires Inv-loop μ-loop
 frame-at-requires c κs = search needs
 
-permits-requires : tie.Need-permits-requires Inv-loop μ-loop
-permits-requires c κs = search needs
+row-requires : tie.Need-row-requires Inv-loop μ-loop
+row-requires c κs = search needs
 
-has-requires : tie.Need-has-requires Inv-loop μ-loop
-has-requires c κs = search needs
+meet-requires : tie.Need-meet-requires Inv-loop μ-loop
+meet-requires c κs = search needs
 
-has-requires-2 : tie.Need-has-requires-2 Inv-loop μ-loop
-has-requires-2 c κs = search needs
+meet-requires-2 : tie.Need-meet-requires-2 Inv-loop μ-loop
+meet-requires-2 c κs = search needs
+
+meet-requires-3 : tie.Need-meet-requires-3 Inv-loop μ-loop
+meet-requires-3 c κs = search needs
 
 loop-less : tie.Need-loop-less Inv-loop μ-loop
 loop-less c = search needs
 
 loop-again : tie.Need-loop-again Inv-loop μ-loop
-loop-again c = (omega arith, onward _ _ _ _ _ _ (c .before .before .before .before .before .before .before .before .loop .inv .1) (c .before .before .before .before .before .before .before .if1 .left) _ (c .before .before .before .before .before .before .frame-at .ensures) (sym (c .before .before .before .before .before .permits .ensures) ∙ not-false _ (c .before .before .before .before .if2 .left)) (sym (c .before .before .before .has .ensures) ∙ c .before .before .if3 .left) (sym (c .before .has2 .ensures) ∙ c .if4 .left))
+loop-again c = (omega arith, onward _ _ _ _ _ _ (c .before .before .before .before .before .before .before .before .before .loop .inv .1) (c .before .before .before .before .before .before .before .before .if1 .left) _ (c .before .before .before .before .before .before .before .frame-at .ensures) (sym (permitted (c .before .before .before .before .before)) ∙ not-false _ (c .before .before .before .before .if2 .left)) (sym (enabled-here (c .before .before .before)) ∙ c .before .before .if3 .left) (sym (disabled-here (c .before)) ∙ c .if4 .left))
 
 returns : tie.Need-returns Inv-loop μ-loop
 returns c = bottom _ _ _ _ _ _ (c .before .loop .inv .1) (c .if1 .taken)
 
 returns-2 : tie.Need-returns-2 Inv-loop μ-loop
-returns-2 c = barred _ _ _ _ _ _ (c .before .before .before .before .loop .inv .1) (c .before .before .before .if1 .left) _ (c .before .before .frame-at .ensures) (sym (c .before .permits .ensures) ∙ not-true _ (c .if2 .taken))
+returns-2 c = barred _ _ _ _ _ _ (c .before .before .before .before .before .loop .inv .1) (c .before .before .before .before .if1 .left) _ (c .before .before .before .frame-at .ensures) (sym (permitted (c .before)) ∙ not-true _ (c .if2 .taken))
 
 returns-3 : tie.Need-returns-3 Inv-loop μ-loop
-returns-3 c = enabled _ _ _ _ _ _ (c .before .before .before .before .before .before .loop .inv .1) (c .before .before .before .before .before .if1 .left) _ (c .before .before .before .before .frame-at .ensures) (sym (c .before .before .before .permits .ensures) ∙ not-false _ (c .before .before .if2 .left)) (sym (c .before .has .ensures) ∙ c .if3 .taken)
+returns-3 c = enabled _ _ _ _ _ _ (c .before .before .before .before .before .before .before .loop .inv .1) (c .before .before .before .before .before .before .if1 .left) _ (c .before .before .before .before .before .frame-at .ensures) (sym (permitted (c .before .before .before)) ∙ not-false _ (c .before .before .if2 .left)) (sym (enabled-here (c .before)) ∙ c .if3 .taken)
 
 returns-4 : tie.Need-returns-4 Inv-loop μ-loop
-returns-4 c = disabled _ _ _ _ _ _ (c .before .before .before .before .before .before .before .before .loop .inv .1) (c .before .before .before .before .before .before .before .if1 .left) _ (c .before .before .before .before .before .before .frame-at .ensures) (sym (c .before .before .before .before .before .permits .ensures) ∙ not-false _ (c .before .before .before .before .if2 .left)) (sym (c .before .before .before .has .ensures) ∙ c .before .before .if3 .left) (sym (c .before .has2 .ensures) ∙ c .if4 .taken)
+returns-4 c = disabled _ _ _ _ _ _ (c .before .before .before .before .before .before .before .before .before .loop .inv .1) (c .before .before .before .before .before .before .before .before .if1 .left) _ (c .before .before .before .before .before .before .before .frame-at .ensures) (sym (permitted (c .before .before .before .before .before)) ∙ not-false _ (c .before .before .before .before .if2 .left)) (sym (enabled-here (c .before .before .before)) ∙ c .before .before .if3 .left) (sym (disabled-here (c .before)) ∙ c .if4 .taken)
 
 pub check-spec : {M : Type 1} → statement M
 check-spec =
@@ -66,14 +83,16 @@ check-spec =
     (tie.spec
     Inv-loop
     μ-loop
+    with-requires
     depth-requires
     loop-holds
     sub-left
     add-looked
     frame-at-requires
-    permits-requires
-    has-requires
-    has-requires-2
+    row-requires
+    meet-requires
+    meet-requires-2
+    meet-requires-3
     loop-less
     loop-again
     returns
