@@ -724,8 +724,16 @@ int main(void) {
         passed_states,     refuse_passed,  nothing_masked, write_derivations, check_derivations, deepest_derivation,
         words_and_answers, names,          stacks,
     };
-    for (size_t i = 0; i < sizeof parts / sizeof *parts; i++)
+    int whole = 0, broken = 0;
+    for (size_t i = 0; i < sizeof parts / sizeof *parts; i++) {
+        int before = failed;
         parts[i]();
-    printf("%d passed, %d failed\n", passed, failed);
-    return failed != 0;
+        if (failed == before)
+            whole++;
+        else
+            broken++;
+    }
+    printf("%d facts held, %d did not\n", passed, failed);
+    printf("%d passed, %d failed\n", whole, broken);
+    return broken != 0;
 }

@@ -1,0 +1,154 @@
+-- Below ten the one digit is the number; else the digits of its tenth part stand before its last. The number itself falls.
+use borrow.Author.Needs.{needs}
+use native.Mathlib.Omega.{arith}
+use mathlib.Core.Path.{ap}
+use lib.ListN.{length}
+use Rattle.lines.proofs.Digits.{decimal-one, decimal-more, decimal-tenth}
+use Rattle.lines.proofs.After.{then, one}
+use Prim.Native.Nat.{ℕ, _<_}
+use borrow.Fn.Kinds.{In}
+use borrow.Fn.PlainCycle.{Measures, is, falls, and}
+use Rattle.lines.proofs.put_number.Reads as put-number
+use Rattle.lines.proofs.put_number.Kinds as put-number-kinds
+use Rattle.lines.proofs.+put_number.Lts-put_number as put-number-lts
+use Rattle.lines.proofs.+put_number.{statement}
+use Rattle.lines.proofs.+put_number.Tie.{close}
+
+abbrev μ-put-number : Measures 1 put-number-kinds.ps ℕ
+μ-put-number κs a = a .1 .1 .0
+
+abbrev put-number-at : ℕ → In 1 put-number-kinds.ps
+put-number-at t =
+    and 1 put-number-kinds.ps (is 1 put-number-kinds.ps μ-put-number t) put-number.Pre
+
+abbrev put-number-below : ℕ → In 1 put-number-kinds.ps
+put-number-below t =
+    and 1 put-number-kinds.ps (falls 1 put-number-kinds.ps _<_ μ-put-number t) put-number.Pre
+
+-- src/lib.rt:41:24
+put-number-cast-out :
+    (t : ℕ) →
+    put-number-lts.Need-cast-out
+    (put-number-below t, put-number.Post)
+    (put-number-at t)
+    put-number.Post
+put-number-cast-out t c = search needs
+
+-- src/lib.rt:41:19
+put-number-add-out :
+    (t : ℕ) →
+    put-number-lts.Need-add-out
+    (put-number-below t, put-number.Post)
+    (put-number-at t)
+    put-number.Post
+put-number-add-out t c = search needs
+
+-- src/lib.rt:41:9
+put-number-slice-write-out : (t : ℕ) → put-number-lts.Need-slice-write-out (
+  put-number-below t,
+  put-number.Post,
+) (put-number-at t) put-number.Post
+put-number-slice-write-out t c =
+    let n = c .before .before .args .n in
+    omega (arith, ap length (decimal-one n (c .if1 .taken)))
+
+-- src/lib.rt:42:16
+put-number-add-result : (t : ℕ) → put-number-lts.Need-add-result (
+  put-number-below t,
+  put-number.Post,
+) (put-number-at t) put-number.Post
+put-number-add-result t c = search needs
+
+-- src/lib.rt:42:9
+put-number-same-length : (t : ℕ) → put-number-lts.Need-same-length (
+  put-number-below t,
+  put-number.Post,
+) (put-number-at t) put-number.Post
+put-number-same-length t c = search needs
+
+-- src/lib.rt:42:9
+put-number-returns :
+    (t : ℕ) →
+    put-number-lts.Need-returns
+    (put-number-below t, put-number.Post)
+    (put-number-at t)
+    put-number.Post
+put-number-returns t c = rw (decimal-one (c .before .before .args .n) (c .if1 .taken)) (one _ _ _)
+
+-- src/lib.rt:44:9
+put-number-put-number-requires : (t : ℕ) → put-number-lts.Need-put-number-requires (
+  put-number-below t,
+  put-number.Post,
+) (put-number-at t) put-number.Post
+put-number-put-number-requires t c κs =
+    let n = c .before .before .before .args .n in
+    let shorter = decimal-tenth n (omega arith) (c .before .if1 .left) in
+    (omega arith, omega arith)
+
+-- src/lib.rt:45:21
+put-number-cast-out-2 : (t : ℕ) → put-number-lts.Need-cast-out-2 (
+  put-number-below t,
+  put-number.Post,
+) (put-number-at t) put-number.Post
+put-number-cast-out-2 t c = search needs
+
+-- src/lib.rt:45:16
+put-number-add-out-2 : (t : ℕ) → put-number-lts.Need-add-out-2 (
+  put-number-below t,
+  put-number.Post,
+) (put-number-at t) put-number.Post
+put-number-add-out-2 t c = search needs
+
+-- src/lib.rt:45:5
+put-number-slice-write-out-2 : (t : ℕ) → put-number-lts.Need-slice-write-out-2 (
+  put-number-below t,
+  put-number.Post,
+) (put-number-at t) put-number.Post
+put-number-slice-write-out-2 t c =
+    let shorter = decimal-tenth (c .before .before .before .before .before .before .args .n) (omega arith) (c .before .before .before .before .if1 .left) in
+    omega (arith, c .before .before .put-number .ensures .until)
+
+-- src/lib.rt:46:5
+put-number-add-result-2 : (t : ℕ) → put-number-lts.Need-add-result-2 (
+  put-number-below t,
+  put-number.Post,
+) (put-number-at t) put-number.Post
+put-number-add-result-2 t c =
+    let shorter = decimal-tenth (c .before .before .before .before .before .before .args .n) (omega arith) (c .before .before .before .before .if1 .left) in
+    omega (arith, c .before .before .put-number .ensures .until)
+
+-- src/lib.rt:36:1
+put-number-same-length-2 : (t : ℕ) → put-number-lts.Need-same-length-2 (
+  put-number-below t,
+  put-number.Post,
+) (put-number-at t) put-number.Post
+put-number-same-length-2 t c = search needs
+
+-- src/lib.rt:36:1
+put-number-returns-2 : (t : ℕ) → put-number-lts.Need-returns-2 (
+  put-number-below t,
+  put-number.Post,
+) (put-number-at t) put-number.Post
+put-number-returns-2 t c =
+    rw (decimal-more (c .before .before .before .before .before .before .args .n) (omega arith) (c .before .before .before .before .if1 .left)) (then (c .before .before .put-number .ensures) (one _ _ _))
+
+pub +put-number-spec : {M : Type 1} → statement M
++put-number-spec = close μ-put-number λ t. put-number-lts.spec (
+  put-number-below t,
+  put-number.Post,
+)
+    (put-number-at t)
+    put-number.Post
+    (put-number-cast-out t)
+    (put-number-add-out t)
+    (put-number-slice-write-out t)
+    (put-number-add-result t)
+    (put-number-same-length t)
+    (put-number-returns t)
+    (put-number-put-number-requires t)
+    (put-number-cast-out-2 t)
+    (put-number-add-out-2 t)
+    (put-number-slice-write-out-2 t)
+    (put-number-add-result-2 t)
+    (put-number-same-length-2 t)
+    (put-number-returns-2 t)

@@ -1,0 +1,60 @@
+-- Bytes that are put one after another stand in the buffer as one. Assumes nothing.
+use mathlib.Core.Path.{_≡_, refl, ap, _∙_}
+use mathlib.Core.List.{List, [], _∷_, _++_}
+use Prim.Native.Nat.{ℕ, suc, _+_, _≤_, _<_}
+use native.Mathlib.Omega.{arith}
+use lib.ListN.{length, getD, take, drop, set, length-append, drop-of-length-le}
+use lib.Seq.{sets, length-sets, sets-eq, drop-cons, take-append-seam, length-take-le}
+use borrow.Author.Tests.{lt-ltb, le-ltb}
+use Rattle.beliefs.proofs.Lists.{sets-more}
+use Rattle.lines.specs.Promise.{Puts, Lined}
+
+pub then : {l m n : List ℕ} {i j k : ℕ} {a b : List ℕ} → Puts l m i j a → Puts m n j k b → Puts l n i k (a ++ b)
+then {l} {m} {n} {i} {j} {k} {a} {b} p q = record {
+  until = simp length-append (omega (arith, p .until, q .until));
+  buffer = q .buffer ∙ rw (p .buffer, p .until) (sets-more l i a b);
+}
+
+pub one : (l : List ℕ) (i v : ℕ) → Puts l (set l i v) i (i + 1) (v ∷ [])
+one l i v = record { until = refl; buffer = refl }
+
+-- a text goes in from its first byte to its last: one of them, and the rest after it
+pub turn : (l text : List ℕ) (at i : ℕ) → i < length text → sets (set l (at + i) (getD text i 0)) (at + (i + 1)) (drop (i + 1) text) ≡ sets l (at + i) (drop i text)
+turn l text at i h =
+    let e : i + 1 ≡ suc i = omega arith in
+    let f : at + suc i ≡ suc (at + i) = omega arith in
+    rw (e, f, drop-cons text i 0 h)
+
+-- after the last of them
+pub all-in : (l text : List ℕ) (at i : ℕ) → length text ≤ i → sets l (at + i) (drop i text) ≡ l
+all-in l text at i h = rw (drop-of-length-le text {i = i} h)
+
+-- what was put at the front of a line is what is carried out of it
+pub carried : {l m : List ℕ} {n : ℕ} {bytes : List ℕ} → Puts l m 0 n bytes → length bytes ≤ length l → take n m ≡ bytes
+carried {l} {m} {n} {bytes} p h =
+    let e : n ≡ length bytes = omega (arith, p .until) in
+    rw (e, p .buffer, sets-eq bytes l 0 (omega arith)) (take-append-seam bytes (drop (0 + length bytes) l))
+
+-- a line that does not fit is not written, and one that fits is written whole
+pub nothing : (lent line : List ℕ) → length lent < length line → Lined 0 lent lent line
+nothing lent line h = record { count = rw (lt-ltb (length lent) (length line) h); buffer = rw (lt-ltb (length lent) (length line) h) }
+
+pub whole : {r : ℕ} {lent left line : List ℕ} → length line ≤ length lent → Puts lent left 0 r line → Lined r lent left line
+whole {r} {lent} {left} {line} h p = record {
+  count = rw (le-ltb (length lent) (length line) h) (omega (arith, p .until));
+  buffer = rw (le-ltb (length lent) (length line) h) (p .buffer);
+}
+
+-- a line that was composed in a buffer of 80 bytes: its length, and its bytes at the front
+pub record Composed (n : ℕ) (m bytes : List ℕ) : Type 0 where
+  pub len : n ≡ length bytes
+  pub text : take n m ≡ bytes
+  pub room : length m ≡ 80
+  pub within : n ≤ length m
+  pub span : length (take n m) ≡ n
+
+pub composed : {l m : List ℕ} {n : ℕ} {bytes : List ℕ} → Puts l m 0 n bytes → length l ≡ 80 → length bytes ≤ 80 → Composed n m bytes
+composed {l} {m} {n} {bytes} p h k =
+    let e : length m ≡ length l = ap length (p .buffer) ∙ length-sets l 0 bytes in
+    let f : n ≤ length m = omega (arith, p .until) in
+    record { len = omega (arith, p .until); text = carried p (omega arith); room = e ∙ h; within = f; span = length-take-le n m f }

@@ -1,0 +1,36 @@
+-- The line is composed apart, and its bytes are what is delivered.
+use borrow.Author.Needs.{needs}
+use native.Mathlib.Omega.{arith}
+use Rattle.lines.proofs.Short.{end-short}
+use Rattle.lines.proofs.After.{carried}
+use Rattle.lines.proofs.end_line.Statement.{statement}
+use Rattle.lines.proofs.end_line.Tie as tie
+
+slice-aggregate-put-end : tie.Need-slice-aggregate-put-end
+slice-aggregate-put-end c = search needs
+
+put-end-requires : tie.Need-put-end-requires
+put-end-requires c κs = search needs
+
+slice-aggregate-deliver : tie.Need-slice-aggregate-deliver
+slice-aggregate-deliver c = search needs
+
+deliver-requires : tie.Need-deliver-requires
+deliver-requires c κs = omega (arith, c .before .before .before .put-end .ensures .until, end-short (c .before .before .before .before .before .before .args .words))
+
+same-length : tie.Need-same-length
+same-length c = search needs
+
+returns : tie.Need-returns
+returns c = rw (carried (c .before .before .before .before .before .before .put-end .ensures) (end-short (c .before .before .before .before .before .before .before .before .before .args .words))) at (c .before .before .deliver .ensures)
+
+pub end-line-spec : {M : Type 1} → statement M
+end-line-spec =
+    tie.close
+    (tie.spec
+    slice-aggregate-put-end
+    put-end-requires
+    slice-aggregate-deliver
+    deliver-requires
+    same-length
+    returns)

@@ -1,0 +1,36 @@
+-- The line is composed apart, and its bytes are what is delivered.
+use borrow.Author.Needs.{needs}
+use native.Mathlib.Omega.{arith}
+use Rattle.lines.proofs.Short.{refused-short}
+use Rattle.lines.proofs.After.{carried}
+use Rattle.lines.proofs.refused_line.Statement.{statement}
+use Rattle.lines.proofs.refused_line.Tie as tie
+
+slice-aggregate-put-refused : tie.Need-slice-aggregate-put-refused
+slice-aggregate-put-refused c = search needs
+
+put-refused-requires : tie.Need-put-refused-requires
+put-refused-requires c κs = search needs
+
+slice-aggregate-deliver : tie.Need-slice-aggregate-deliver
+slice-aggregate-deliver c = search needs
+
+deliver-requires : tie.Need-deliver-requires
+deliver-requires c κs = omega (arith, c .before .before .before .put-refused .ensures .until, refused-short (c .before .before .before .before .before .before .args .number) (c .before .before .before .before .before .before .args .index))
+
+same-length : tie.Need-same-length
+same-length c = search needs
+
+returns : tie.Need-returns
+returns c = rw (carried (c .before .before .before .before .before .before .put-refused .ensures) (refused-short (c .before .before .before .before .before .before .before .before .before .args .number) (c .before .before .before .before .before .before .before .before .before .args .index))) at (c .before .before .deliver .ensures)
+
+pub refused-line-spec : {M : Type 1} → statement M
+refused-line-spec =
+    tie.close
+    (tie.spec
+    slice-aggregate-put-refused
+    put-refused-requires
+    slice-aggregate-deliver
+    deliver-requires
+    same-length
+    returns)

@@ -1,0 +1,54 @@
+-- The policy's bytes and the trace's are the input's, cut in two.
+use borrow.Author.Needs.{needs}
+use native.Mathlib.Omega.{arith}
+use denote.Ref.{now}
+use mathlib.Core.Path.{sym}
+use lib.Seq.{length-take-le}
+use Rattle.listing.proofs.Cut.{cut-most}
+use Rattle.listing.proofs.print_listing.Statement.{statement}
+use Rattle.listing.proofs.print_listing.Tie as tie
+
+cut-requires : tie.Need-cut-requires
+cut-requires c κs = search needs
+
+slice-aggregate-read : tie.Need-slice-aggregate-read
+slice-aggregate-read c = sym (length-take-le _ _ (rw (c .before .cut .ensures) (cut-most (now (c .before .before .before .args .input)))))
+
+read-requires : tie.Need-read-requires
+read-requires c κs = search needs
+
+print-refused-requires : tie.Need-print-refused-requires
+print-refused-requires c κs = search needs
+
+returns : tie.Need-returns
+returns c = search needs
+
+sub-print-run : tie.Need-sub-print-run
+sub-print-run c = omega (arith, c .before .before .before .before .before .cut .ensures, cut-most (now (c .before .before .before .before .before .before .before .args .input)))
+
+part-print-run-start : tie.Need-part-print-run-start
+part-print-run-start c = omega (arith, c .before .before .before .before .before .cut .ensures, cut-most (now (c .before .before .before .before .before .before .before .args .input)))
+
+part-print-run-end : tie.Need-part-print-run-end
+part-print-run-end c = omega (arith, c .before .before .before .before .before .cut .ensures, cut-most (now (c .before .before .before .before .before .before .before .args .input)))
+
+print-run-requires : tie.Need-print-run-requires
+print-run-requires c κs = search needs
+
+returns-2 : tie.Need-returns-2
+returns-2 c = search needs
+
+pub print-listing-spec : {M : Type 1} → statement M
+print-listing-spec =
+    tie.close
+    (tie.spec
+    cut-requires
+    slice-aggregate-read
+    read-requires
+    print-refused-requires
+    returns
+    sub-print-run
+    part-print-run-start
+    part-print-run-end
+    print-run-requires
+    returns-2)
