@@ -8,7 +8,7 @@ use Prim.Native.Nat.{ℕ}
 use native.Mathlib.Omega.{arith}
 use lib.Dec.{eqb, ltb}
 use lib.ListN.{length}
-use borrow.Author.Tests.{eqb-true}
+use borrow.Author.Tests.{eqb-true, ne-eqb}
 use Rattle.beliefs.specs.declared.Operation.{Operation}
 use Rattle.beliefs.specs.declared.Operation.the-variants.{Call, Return, Enable, Disable, Revert, Check}
 use Rattle.beliefs.specs.Policy.{valid}
@@ -96,3 +96,10 @@ module _ (p s : List ℕ) where
     answer = rw a at b;
     serves = λ v f i st h. rw (b, a) (says p s st h (refusalOf p (passedIn s) (Check t)) t lent (eqb (refusalOf p (passedIn s) (Check t)) 0) refl (goes (Check t) v f i st h));
   })
+
+-- "A refused operation changes no state": nor does it write an answer byte
+pub passed-refused : (p s : List ℕ) (op : Operation) (n : ℕ) (left : List ℕ) → Moves p s op n left → n ≢ 0 → left ≡ s
+passed-refused p s op n left h nz = h .state ∙ rw (ne-eqb _ 0 (λ e. nz (h .number ∙ e)))
+
+pub passed-unanswered : (p s : List ℕ) (t n lent byte : ℕ) → Asks p s t n lent byte → n ≢ 0 → byte ≡ lent
+passed-unanswered p s t n lent byte h nz = h .answer ∙ rw (ne-eqb _ 0 (λ e. nz (h .number ∙ e)))
