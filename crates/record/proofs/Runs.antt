@@ -1,6 +1,6 @@
 -- What stands in a list after a run of words was stored, and what it is that no word of a run has a bit from n on. Assumes nothing.
-use mathlib.Core.Path.{_≡_, refl, _∙_}
-use mathlib.Core.Bool.{Bool, true, false}
+use mathlib.Core.Path.{_≡_, refl, ap, _∙_}
+use mathlib.Core.Bool.{Bool, true, false, _&&_}
 use mathlib.Core.List.{List}
 use mathlib.Core.Logic.{_≢_}
 use Prim.Native.Nat.{ℕ, zero, suc, _+_, _-_, _*_, _^_, _≤_, _<_}
@@ -11,7 +11,8 @@ use lib.ListN.{length, getD, set, length-set}
 use lib.Seq.{getD-set-same, getD-set-other}
 use borrow.Author.Tests.{lt-ltb, ltb-true, eq-eqb, ne-eqb, eqb-true, eqb-false}
 use Rattle.bits.specs.Bit.{below}
-use Rattle.beliefs.proofs.Lists.{each-at, each-of}
+use Rattle.beliefs.specs.Lists.{each}
+use Rattle.beliefs.proofs.Lists.{each-none, each-at, each-of, each-ext, each-sum}
 use Rattle.record.specs.Record.{depth, heldAt, held, filled, startWord, longer, handed, wordsBelow}
 
 module _ (at : ℕ) (w : ℕ → ℕ) (s : List ℕ) where
@@ -84,3 +85,17 @@ module _ (s : List ℕ) (from to n : ℕ) where
   pub words-all : ((i : ℕ) → from ≤ i → i < to → getD s i 0 < 2 ^ n) → wordsBelow s from to n ≡ true
   unfolding wordsBelow below
   words-all h = each-of (λ i. below (getD s (from + i) 0) n) (to - from) (λ i l. lt-ltb (getD s (from + i) 0) (2 ^ n) (h (from + i) (omega arith) (omega arith)))
+
+-- a run, and the run that follows it
+pub words-none : (s : List ℕ) (from n : ℕ) → wordsBelow s from from n ≡ true
+unfolding wordsBelow
+words-none s from n = let e : from - from ≡ 0 = omega arith in rw e (each-none (λ i. below (getD s (from + i) 0) n))
+
+pub words-then : (s : List ℕ) (from mid to n : ℕ) → from ≤ mid → mid ≤ to → wordsBelow s from to n ≡ (wordsBelow s from mid n && wordsBelow s mid to n)
+unfolding wordsBelow
+words-then s from mid to n l m =
+    let both : to - from ≡ mid - from + (to - mid) = omega arith in
+    let f : ℕ → Bool = λ i. below (getD s (from + i) 0) n in
+    rw both
+    (each-sum f (mid - from) (to - mid)
+    ∙ ap (λ (x : Bool). each f (mid - from) && x) (each-ext (λ i. f (mid - from + i)) (λ i. below (getD s (mid + i) 0) n) (to - mid) (λ i h. let at : from + (mid - from + i) ≡ mid + i = omega arith in rw at)))

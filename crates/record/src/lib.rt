@@ -125,6 +125,22 @@ fn frames_fit(policy: &[u64; 35], state: &[u64; 4096]) -> bool
     true
 }
 
+// Whether there is nothing but zero in room above the depth. A frame at a time is quicker than all the room at once: the
+// compiler sees how many words there are.
+fn zero_above(state: &[u64; 4096]) -> bool
+    ensures { λ r. ⌜ r ≡ wordsBelow (now (state .entry)) (65 * depth (now (state .entry)) + 1) 4096 0 ⌝ }
+{
+    let mut frame = depth(state);
+    while frame < FRAMES {
+        let at = FRAME * frame as usize + 1;
+        if !words_below(state, at, at + FRAME, 0) {
+            return false;
+        }
+        frame += 1;
+    }
+    true
+}
+
 // Whether number 14 does not refuse the state.
 pub fn valid(policy: &[u64; 35], state: &[u64; 4096]) -> bool
     ensures { λ r. ⌜ r ≡ recordFits (now (policy .entry)) (now (state .entry)) ⌝ }
@@ -135,8 +151,7 @@ pub fn valid(policy: &[u64; 35], state: &[u64; 4096]) -> bool
     if !frames_fit(policy, state) {
         return false;
     }
-    let above = FRAME * depth(state) as usize + 1;
-    words_below(state, above, 4096, 0)
+    zero_above(state)
 }
 
 // Ok(T) with the empty chain, for a target below n.
@@ -253,11 +268,12 @@ fn hold(state: &mut [u64; 4096], target: u8, word: u64) -> Answer
 fn granted(policy: &[u64; 35], state: &[u64; 4096], target: u8) -> bool
     ensures { λ r. ⌜ r ≡ grantedIn (now (policy .entry)) target (now (state .entry)) ⌝ }
 {
+    let asked = bits::with(0, target);
     let d = depth(state);
     let lengths = held(state, target);
     let mut k: u64 = 0;
     while k < d {
-        if !policy::permits(policy, signer(state, d - 1 - k), target) {
+        if !bits::meet(policy::row(policy, signer(state, d - 1 - k)), asked) {
             return false;
         }
         if bits::has(lengths, k as u8) {

@@ -2,7 +2,7 @@
 use borrow.Author.Needs.{needs}
 use borrow.Author.Tests.{not-true, not-false}
 use borrow.Author.Count.{below-more}
-use mathlib.Core.Path.{_≡_, sym, _∙_}
+use mathlib.Core.Path.{_≡_, sym, ap, _∙_}
 use mathlib.Core.Bool.{true, false}
 use Prim.Native.Nat.{ℕ, _-_, _≤_, _<_}
 use native.Mathlib.Omega.{arith}
@@ -15,21 +15,27 @@ use Rattle.record.proofs.granted.Statement.{statement}
 use Rattle.record.proofs.granted.Tie as tie
 
 abbrev Inv-loop : tie.InvT-loop
-Inv-loop policy state target d lengths k₀ k = (k ≤ d) × ((newestPermitted policy target state k ≡ true) × ((i : ℕ) → i < k → bit (held state target) i ≡ false))
+Inv-loop policy state target asked d lengths k₀ k = (k ≤ d) × ((newestPermitted policy target state k ≡ true) × ((i : ℕ) → i < k → bit (held state target) i ≡ false))
 
 abbrev μ-loop : tie.MeasureT-loop
-μ-loop policy state target d lengths k₀ k = d - k
+μ-loop policy state target asked d lengths k₀ k = d - k
 
--- what the two callees say of the frame and the length that are tried
-is-permitted : (c : tie.After-permits Inv-loop μ-loop)
-    → c .permits .result
-    ≡ permits (c .before .before .before .before .before .before .args .policy .now) (signerAt (c .before .before .before .before .before .before .args .state .now) (depth (c .before .before .before .before .before .before .args .state .now) - 1 - c .before .before .before .loop .k)) (c .before .before .before .before .before .before .args .target)
-is-permitted c = rw (← c .before .before .before .before .before .depth .ensures, ← c .before .signer .ensures) (c .permits .ensures)
+-- what the callees say of the frame and the length that are tried: the test of the word of the bit is the test of the bit
+is-permitted : (c : tie.After-meet Inv-loop μ-loop)
+    → c .meet .result
+    ≡ permits (c .before .before .before .before .before .before .before .before .args .policy .now) (signerAt (c .before .before .before .before .before .before .before .before .args .state .now) (depth (c .before .before .before .before .before .before .before .before .args .state .now) - 1 - c .before .before .before .before .loop .k)) (c .before .before .before .before .before .before .before .before .args .target)
+unfolding permits
+is-permitted c =
+    rw (← c .before .before .before .before .before .before .depth .ensures, ← c .before .before .signer .ensures)
+    (c .meet .ensures .alone _ (c .before .before .before .before .before .before .before .with .ensures) ∙ ap (λ (w : ℕ). bit w (c .before .before .before .before .before .before .before .before .args .target)) (c .before .row .ensures))
 
 is-held : (c : tie.After-has Inv-loop μ-loop)
     → c .has .result
-    ≡ bit (held (c .before .before .before .before .before .before .before .before .args .state .now) (c .before .before .before .before .before .before .before .before .args .target)) (c .before .before .before .before .before .loop .k)
-is-held c = rw (← c .before .before .before .before .before .before .held .ensures) (c .has .ensures)
+    ≡ bit (held (c .before .before .before .before .before .before .before .before .before .before .args .state .now) (c .before .before .before .before .before .before .before .before .before .before .args .target)) (c .before .before .before .before .before .before .loop .k)
+is-held c = rw (← c .before .before .before .before .before .before .before .held .ensures) (c .has .ensures)
+
+with-requires : tie.Need-with-requires Inv-loop μ-loop
+with-requires c κs = search needs
 
 depth-requires : tie.Need-depth-requires Inv-loop μ-loop
 depth-requires c κs = search needs
@@ -49,11 +55,14 @@ sub-signer-2 c = search needs
 signer-requires : tie.Need-signer-requires Inv-loop μ-loop
 signer-requires c κs = search needs
 
-permits-requires : tie.Need-permits-requires Inv-loop μ-loop
-permits-requires c κs = search needs
+row-requires : tie.Need-row-requires Inv-loop μ-loop
+row-requires c κs = search needs
+
+meet-requires : tie.Need-meet-requires Inv-loop μ-loop
+meet-requires c κs = search needs
 
 returns : tie.Need-returns Inv-loop μ-loop
-returns c = sym (tried-barred _ _ _ _ (c .before .before .before .before .loop .inv .1 .1) (sym (is-permitted (c .before)) ∙ not-true _ (c .if1 .taken)))
+returns c = sym (tried-barred _ _ _ _ (c .before .before .before .before .before .loop .inv .1 .1) (sym (is-permitted (c .before)) ∙ not-true _ (c .if1 .taken)))
 
 cast-has : tie.Need-cast-has Inv-loop μ-loop
 cast-has c = search needs
@@ -66,7 +75,7 @@ returns-2 c =
     sym
     (tried-found _ _ _ _
     (omega arith)
-    (c .before .before .before .before .before .before .loop .inv .1 .0)
+    (c .before .before .before .before .before .before .before .loop .inv .1 .0)
     (sym (is-permitted (c .before .before .before)) ∙ not-false _ (c .before .before .if1 .left))
     (sym (is-held (c .before)) ∙ c .if2 .taken))
 
@@ -80,8 +89,8 @@ loop-again : tie.Need-loop-again Inv-loop μ-loop
 loop-again c = (
   omega arith,
   (
-    each-more _ _ (c .before .before .before .before .before .before .loop .inv .1 .0) (sym (is-permitted (c .before .before .before)) ∙ not-false _ (c .before .before .if1 .left)),
-    below-more _ _ (c .before .before .before .before .before .before .loop .inv .1 .1) (sym (is-held (c .before)) ∙ c .if2 .left),
+    each-more _ _ (c .before .before .before .before .before .before .before .loop .inv .1 .0) (sym (is-permitted (c .before .before .before)) ∙ not-false _ (c .before .before .if1 .left)),
+    below-more _ _ (c .before .before .before .before .before .before .before .loop .inv .1 .1) (sym (is-held (c .before)) ∙ c .if2 .left),
   ),
 )
 
@@ -94,13 +103,15 @@ granted-spec =
     (tie.spec
     Inv-loop
     μ-loop
+    with-requires
     depth-requires
     held-requires
     loop-holds
     sub-signer
     sub-signer-2
     signer-requires
-    permits-requires
+    row-requires
+    meet-requires
     returns
     cast-has
     has-requires
