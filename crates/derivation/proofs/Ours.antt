@@ -1,14 +1,13 @@
 -- Ours is accepted wherever its take may be made and every frame of it is permitted: each rule goes through the chain place by place. Assumes nothing.
 use mathlib.Core.Path.{_≡_, refl, ap, _∙_}
-use mathlib.Core.Logic.{_≢_}
 use mathlib.Core.Bool.{true, false}
 use mathlib.Core.Option.{Option, some, Option·elim}
 use mathlib.Core.List.{List, [], _∷_, _++_, map, append-assoc}
 use Prim.Native.Nat.{ℕ, zero, suc, _+_, _-_, _*_, _/_, _%_, _≤_, _<_}
 use native.Mathlib.Numerals.{add-one}
 use native.Mathlib.Omega.{arith}
-use lib.ListN.{length, getD, take, set, replicate, length-append, length-replicate, getD-replicate, List·getD-append}
-use lib.Seq.{sets, length-take-le, take-suc, take-all, getD-append-add}
+use lib.ListN.{length, take, set, replicate, length-append, length-replicate}
+use lib.Seq.{sets, length-take-le}
 use Rattle.beliefs.specs.declared.Marked.{Marked}
 use Rattle.beliefs.specs.Account.{told}
 use Rattle.beliefs.specs.Policy.{permits}
@@ -33,48 +32,24 @@ ours-length n =
       length-replicate {A = ℕ} n 192,
     )
 
--- ours by index: the take, then each rule at each place, then drops
-getD-atPlaces : (r k n i : ℕ) → i < n → getD (atPlaces r k n) i 0 ≡ r * 64 + (k + i)
-getD-atPlaces r k zero i h = absurd (omega arith)
-getD-atPlaces r k (suc n) zero h = omega arith
-getD-atPlaces r k (suc n) (suc i) h = omega (arith, getD-atPlaces r (suc k) n i (omega arith))
+-- the writer's loops: the step at k, and those after it
+pub places-next : (r k n : ℕ) → k < n → atPlaces r k (n - k) ≡ (r * 64 + k) ∷ atPlaces r (k + 1) (n - (k + 1))
+places-next r k n h = let e : n - k ≡ suc (n - (k + 1)) = omega arith in rw (e, add-one)
 
-module _ (n j : ℕ) (later : j ≢ 0) where
-  rest : getD (ours n) j 0 ≡ getD (atPlaces 1 0 n ++ (atPlaces 2 0 n ++ replicate n 192)) (j - 1) 0
-  unfolding ours
-  rest = let e : j ≡ suc (j - 1) = omega arith in ap (λ (x : ℕ). getD (ours n) x 0) e
+pub drops-next : (k n : ℕ) → k < n → replicate {A = ℕ} (n - k) 192 ≡ 192 ∷ replicate (n - (k + 1)) 192
+drops-next k n h = let e : n - k ≡ suc (n - (k + 1)) = omega arith in rw e
 
-  pub ours-spoken : j ≤ n → getD (ours n) j 0 ≡ 64 + (j - 1)
-  ours-spoken h =
-      rest ∙ List·getD-append (atPlaces 1 0 n) (atPlaces 2 0 n ++ replicate n 192) 0 (j - 1) (omega (arith, atPlaces-length 1 0 n))
-      ∙ omega (arith, getD-atPlaces 1 0 n (j - 1) (omega arith))
+pub put-next : (l : List ℕ) (at k v : ℕ) (vs ws : List ℕ) → ws ≡ v ∷ vs → sets (set l (at + k) v) (at + (k + 1)) vs ≡ sets l (at + k) ws
+put-next l at k v vs ws e = let up : at + (k + 1) ≡ suc (at + k) = omega arith in rw (e, up)
 
-  module _ (past : n < j) where
-    second : getD (ours n) j 0 ≡ getD (atPlaces 2 0 n ++ replicate n 192) (j - 1 - n) 0
-    second =
-        let e : j - 1 ≡ length (atPlaces 1 0 n) + (j - 1 - n) = omega (arith, atPlaces-length 1 0 n) in
-        rest ∙ ap (λ (x : ℕ). getD (atPlaces 1 0 n ++ (atPlaces 2 0 n ++ replicate n 192)) x 0) e ∙ getD-append-add (atPlaces 1 0 n) (atPlaces 2 0 n ++ replicate n 192) (j - 1 - n) 0
-
-    pub ours-allowed : j ≤ 2 * n → getD (ours n) j 0 ≡ 128 + (j - 1 - n)
-    ours-allowed h =
-        second ∙ List·getD-append (atPlaces 2 0 n) (replicate n 192) 0 (j - 1 - n) (omega (arith, atPlaces-length 2 0 n))
-        ∙ omega (arith, getD-atPlaces 2 0 n (j - 1 - n) (omega arith))
-
-    pub ours-dropped : 2 * n < j → j < 3 * n + 1 → getD (ours n) j 0 ≡ 192
-    ours-dropped h l =
-        let e : j - 1 - n ≡ length (atPlaces 2 0 n) + (j - 1 - 2 * n) = omega (arith, atPlaces-length 2 0 n) in
-        second ∙ ap (λ (x : ℕ). getD (atPlaces 2 0 n ++ replicate n 192) x 0) e ∙ getD-append-add (atPlaces 2 0 n) (replicate n 192) (j - 1 - 2 * n) 0
-        ∙ getD-replicate n (j - 1 - 2 * n) 192 0 (omega arith)
-
--- the writer's loop: one more step of ours
-pub ours-more : (n : ℕ) (lent now : List ℕ) (j : ℕ) → j < 3 * n + 1 → now ≡ sets lent 0 (take j (ours n)) → set now j (getD (ours n) j 0) ≡ sets lent 0 (take (j + 1) (ours n))
-ours-more n lent now j h e =
-    let inside : j < length (ours n) = omega (arith, ours-length n) in
-    let at : 0 + length (take j (ours n)) ≡ j = omega (arith, length-take-le j (ours n) (omega arith)) in
-    rw (e, add-one, take-suc (ours n) j 0 inside) (rw at at (sets-more lent 0 (take j (ours n)) (getD (ours n) j 0 ∷ [])))
-
-pub ours-all : (n j : ℕ) → 3 * n + 1 ≤ j → take j (ours n) ≡ ours n
-ours-all n j h = take-all j (ours n) (omega (arith, ours-length n))
+-- and the four runs in their order
+pub ours-put : (l : List ℕ) (n : ℕ) → sets (sets (sets (set l 0 n) 1 (atPlaces 1 0 n)) (n + 1) (atPlaces 2 0 n)) (2 * n + 1) (replicate n 192) ≡ sets l 0 (ours n)
+unfolding ours
+ours-put l n =
+    let first : List ℕ = sets (set l 0 n) 1 (atPlaces 1 0 n) in
+    let one : 1 + length (atPlaces 1 0 n) ≡ n + 1 = omega (arith, atPlaces-length 1 0 n) in
+    let two : n + 1 + length (atPlaces 2 0 n) ≡ 2 * n + 1 = omega (arith, atPlaces-length 2 0 n) in
+    rw two at (sets-more first (n + 1) (atPlaces 2 0 n) (replicate n 192)) ∙ rw one at (sets-more (set l 0 n) 1 (atPlaces 1 0 n) (atPlaces 2 0 n ++ replicate n 192))
 
 -- an entry in the midst of a chain
 at-place : (g : Entry → Option Entry) (before : List Entry) (e x : Entry) (es : List Entry) → g e ≡ some x

@@ -5,7 +5,7 @@ ghost use mathlib.Core.Option.{some, none};
 ghost use mathlib.Core.List.{List, []};
 ghost use Prim.Native.Nat.{_+_, _*_, _≤_, _<_};
 ghost use lib.Dec.{eqb};
-ghost use lib.ListN.{getD, take, length};
+ghost use lib.ListN.{getD, take, length, replicate};
 ghost use lib.Seq.{sets};
 ghost use Rattle.bits.specs.Bit.{bit};
 ghost use Rattle.beliefs.specs.declared.Marked.{Marked};
@@ -13,7 +13,7 @@ ghost use Rattle.beliefs.specs.Lists.{all};
 ghost use Rattle.beliefs.specs.Numbers.{notEmpty};
 ghost use Rattle.beliefs.specs.Account.{told, Reports};
 ghost use Rattle.beliefs.specs.Stack.{nobody};
-ghost use Rattle.beliefs.specs.Derivation.{mayTake, taken, spoken, allowed, atPlace, dropLast, rule, place, follow, judge, ours};
+ghost use Rattle.beliefs.specs.Derivation.{mayTake, taken, spoken, allowed, atPlace, dropLast, rule, place, follow, judge, atPlaces, ours};
 ghost use Rattle.walk.specs.State.{frames};
 ghost use Rattle.derivation.specs.Chain.{entries, outcome, with-took, Leaves};
 ghost use Rattle.derivation.specs.Promise.{barred, checking, writing, Tells};
@@ -53,10 +53,11 @@ fn frame_at(state: &[u64; 190], place: u64) -> Marked
 fn none_disabled(state: &[u64; 190], target: u8, n: u64) -> bool
     ensures { λ r. ⌜ r ≡ all (λ (m : Marked). not (bit (m .disabled) target)) (take n (frames (now (state .entry)))) ⌝ }
 {
+    let asked = bits::with(0, target);
     let mut k: u64 = 0;
     while k < n {
         let frame = frame_at(state, k);
-        if bits::has(frame.disabled, target) {
+        if bits::meet(frame.disabled, asked) {
             return false;
         }
         k += 1;
@@ -134,7 +135,8 @@ fn permit(policy: &[u64; 35], state: &[u64; 190], target: u8, chain: Chain, step
         return Turn::Refused;
     }
     let frame = frame_at(state, k as u64);
-    if !policy::permits(policy, frame.signer, target) {
+    // By the word of the target's bit, which is the same at every step: `policy::permits` would shift each row anew.
+    if !bits::meet(policy::row(policy, frame.signer), bits::with(0, target)) {
         return Turn::Refused;
     }
     Turn::To(Chain {
@@ -261,33 +263,39 @@ pub fn check(policy: &[u64; 35], state: &[u64; 190], target: u8, steps: &[u8]) -
     judge(policy, state, target, steps)
 }
 
-// The step of ours at an index: the take, rule 1 at each place, rule 2 at each place, then drops.
-fn ours_at(n: usize, j: usize) -> u8
-    requires { ⌜ (n < 64) × (j < 3 * n + 1) ⌝ }
-    ensures { λ r. ⌜ r ≡ getD (ours n) j 0 ⌝ }
+// A rule at each of the first n places, into the buffer from an index on.
+fn put_rule(steps: &mut [u8], at: usize, rule: u8, n: usize)
+    requires { ⌜ (rule ≤ 2) × (n ≤ 64) × (at + n ≤ length (now steps)) ⌝ }
+    ensures { λ _. ⌜ now (steps .exit) ≡ sets (now (steps .entry)) at (atPlaces rule 0 n) ⌝ }
 {
-    if j == 0 {
-        return n as u8;
+    let mut k: usize = 0;
+    while k < n {
+        steps[at + k] = rule * 64 + k as u8;
+        k += 1;
     }
-    if j <= n {
-        return 64 + (j - 1) as u8;
-    }
-    if j <= 2 * n {
-        return 128 + (j - 1 - n) as u8;
-    }
-    192
 }
 
-// Writes ours at the front of a buffer with room for it.
+// So many drops, into the buffer from an index on.
+fn put_drops(steps: &mut [u8], at: usize, many: usize)
+    requires { ⌜ at + many ≤ length (now steps) ⌝ }
+    ensures { λ _. ⌜ now (steps .exit) ≡ sets (now (steps .entry)) at (replicate many 192) ⌝ }
+{
+    let mut k: usize = 0;
+    while k < many {
+        steps[at + k] = 192;
+        k += 1;
+    }
+}
+
+// Writes ours at the front of a buffer with room for it. Each rule has a loop of its own, with no test of which rule is next.
 fn write_ours(steps: &mut [u8], n: usize)
     requires { ⌜ (n < 64) × (3 * n + 1 ≤ length (now steps)) ⌝ }
-    ensures { λ r. ⌜ now (steps .exit) ≡ sets (now (steps .entry)) 0 (ours n) ⌝ }
+    ensures { λ _. ⌜ now (steps .exit) ≡ sets (now (steps .entry)) 0 (ours n) ⌝ }
 {
-    let mut j: usize = 0;
-    while j < 3 * n + 1 {
-        steps[j] = ours_at(n, j);
-        j += 1;
-    }
+    steps[0] = n as u8;
+    put_rule(steps, 1, 1, n);
+    put_rule(steps, n + 1, 2, n);
+    put_drops(steps, 2 * n + 1, n);
 }
 
 // Writes the derivation for a granted check: 13, 14, 6, 7, 12, 9, else 0 and the number of its steps.

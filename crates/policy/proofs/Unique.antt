@@ -7,7 +7,7 @@ use lib.ListN.{length}
 use Rattle.bits.proofs.Unique.{one-result}
 use Rattle.beliefs.specs.declared.Report.{Report}
 use Rattle.beliefs.specs.Account.{Reports}
-use Rattle.beliefs.specs.Policy.{signers, targets, row, permits, valid, writing}
+use Rattle.beliefs.specs.Policy.{signers, targets, row, valid, writing}
 use Rattle.beliefs.specs.Stack.{full}
 use Rattle.beliefs.proofs.Unique.{reports-unique}
 use Rattle.policy.specs.Read.{PolicyRead, cutAt}
@@ -23,9 +23,6 @@ targets-unique p r q = one-result
 
 pub row-unique : (p : List ℕ) (s r q : ℕ) → r ≡ row p s → q ≡ row p s → r ≡ q
 row-unique p s r q = one-result
-
-pub permits-unique : (p : List ℕ) (s t : ℕ) (r q : Bool) → r ≡ permits p s t → q ≡ permits p s t → r ≡ q
-permits-unique p s t r q = one-result
 
 pub valid-unique : (p : List ℕ) (r q : Bool) → r ≡ valid p → q ≡ valid p → r ≡ q
 valid-unique p r q = one-result

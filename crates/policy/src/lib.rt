@@ -7,7 +7,7 @@ ghost use lib.Seq.{sets};
 ghost use Rattle.bits.specs.Bit.{below};
 ghost use Rattle.beliefs.specs.Lists.{all, each};
 ghost use Rattle.beliefs.specs.Account.{Reports};
-ghost use Rattle.beliefs.specs.Policy.{signers, targets, row, permits, within, rowFits, valid};
+ghost use Rattle.beliefs.specs.Policy.{signers, targets, row, within, rowFits, valid};
 ghost use Rattle.beliefs.specs.Policy.{width, size, mirrored, rowOf, rowBytes, rowsOf, rowsBytes, header, headSigners, headTargets, headed};
 ghost use Rattle.beliefs.specs.Policy.{readNumber, valueRead, bytesWritten, writing};
 ghost use Rattle.beliefs.specs.Stack.{full};
@@ -43,13 +43,6 @@ pub fn row(policy: &[u64; 35], signer: u64) -> u64
         return 0;
     }
     whole[3 + signer as usize]
-}
-
-// Whether a signer is permitted a target.
-pub fn permits(policy: &[u64; 35], signer: u64, target: u8) -> bool
-    ensures { λ r. ⌜ r ≡ permits (now (policy .entry)) signer target ⌝ }
-{
-    bits::has(row(policy, signer), target)
 }
 
 // Whether the rows are as number 13 asks: below S no target at N or above, from S on nothing.

@@ -34,7 +34,12 @@ enum-told : tie.Need-enum-told Inv-loop μ-loop
 enum-told c = search needs
 
 returns : tie.Need-returns Inv-loop μ-loop
-returns c = rw (c .before .before .before .before .before .loop .inv .1 ∙ refused (c .before .before .before .before .before .before .before .args .policy .now) (frames (c .before .before .before .before .before .before .before .args .state .now)) (c .before .before .before .before .before .before .before .args .target) (c .before .before .before .before .before .before .before .args .steps .now) (c .before .before .before .before .before .loop .i) (c .before .before .before .before .before .loop .chain) (c .before .before .before .before .loop-test .taken) (rw (c .enum-told .given .1) at (c .before .before .follow .ensures))) (record { number = refl; figure = refl })
+returns c =
+    let turned = c .before .before in
+    let looped = turned .before .before .before in
+    let a = looped .before .before .args in
+    let no = refused (a .policy .now) (frames (a .state .now)) (a .target) (a .steps .now) (looped .loop .i) (looped .loop .chain) (turned .before .before .loop-test .taken) in
+    rw (looped .loop .inv .1 ∙ no (rw (c .enum-told .given .1) at (turned .follow .ensures))) (record { number = refl; figure = refl })
 
 add-i : tie.Need-add-i Inv-loop μ-loop
 add-i c = search needs
@@ -43,13 +48,22 @@ loop-less : tie.Need-loop-less Inv-loop μ-loop
 loop-less c = search needs
 
 loop-again : tie.Need-loop-again Inv-loop μ-loop
-loop-again c = (omega arith, c .before .before .before .before .before .before .loop .inv .1 ∙ onward (c .before .before .before .before .before .before .before .before .args .policy .now) (frames (c .before .before .before .before .before .before .before .before .args .state .now)) (c .before .before .before .before .before .before .before .before .args .target) (c .before .before .before .before .before .before .before .before .args .steps .now) (c .before .before .before .before .before .before .loop .i) (c .before .before .before .before .before .before .loop .chain) (c .before .before .before .before .before .loop-test .taken) (c .before .turn .given .0 .0) (rw (c .before .turn .given .1) at (c .before .before .before .follow .ensures)))
+loop-again c =
+    let turned = c .before .before .before in
+    let looped = turned .before .before .before in
+    let a = looped .before .before .args in
+    let on = onward (a .policy .now) (frames (a .state .now)) (a .target) (a .steps .now) (looped .loop .i) (looped .loop .chain) (turned .before .before .loop-test .taken) in
+    (omega arith, looped .loop .inv .1 ∙ on (c .before .turn .given .0 .0) (rw (c .before .turn .given .1) at (turned .follow .ensures)))
 
 conclude-requires : tie.Need-conclude-requires Inv-loop μ-loop
 conclude-requires c κs = search needs
 
 returns-2 : tie.Need-returns-2 Inv-loop μ-loop
-returns-2 c = let e : c .before .before .loop .i ≡ length (c .before .before .before .before .args .steps .now) = omega arith in rw (c .before .before .loop .inv .1 ∙ at-end (c .before .before .before .before .args .policy .now) (frames (c .before .before .before .before .args .state .now)) (c .before .before .before .before .args .target) (c .before .before .before .before .args .steps .now) (c .before .before .loop .i) (c .before .before .loop .chain) e) (c .conclude .ensures)
+returns-2 c =
+    let looped = c .before .before in
+    let a = looped .before .before .args in
+    let e : looped .loop .i ≡ length (a .steps .now) = omega arith in
+    rw (looped .loop .inv .1 ∙ at-end (a .policy .now) (frames (a .state .now)) (a .target) (a .steps .now) (looped .loop .i) (looped .loop .chain) e) (c .conclude .ensures)
 
 pub judge-spec : {M : Type 1} → statement M
 judge-spec =

@@ -1,24 +1,37 @@
 -- None of the first k frames has it disabled, one more at each turn.
 use borrow.Author.Needs.{needs}
-use mathlib.Core.Path.{_≡_, refl, sym}
+use mathlib.Core.Path.{_≡_, refl, sym, ap, _∙_}
 use mathlib.Core.Bool.{true, not}
 use Prim.Native.Nat.{_-_, _≤_}
 use native.Mathlib.Omega.{arith}
-use lib.ListN.{take}
+use lib.ListN.{getD, take}
 use Rattle.bits.specs.Bit.{bit}
 use Rattle.bits.proofs.Laws.{bit-none}
 use Rattle.beliefs.specs.declared.Marked.{Marked}
 use Rattle.beliefs.specs.Lists.{all}
+use Rattle.beliefs.specs.Stack.{nobody}
 use Rattle.walk.specs.State.{frames}
 use Rattle.derivation.proofs.Entries.{all-more, all-fails}
 use Rattle.derivation.proofs.none_disabled.Statement.{statement}
 use Rattle.derivation.proofs.none_disabled.Tie as tie
 
 abbrev Inv-loop : tie.InvT-loop
-Inv-loop state target n k₀ k = (k ≤ n) × (all (λ (m : Marked). not (bit (m .disabled) target)) (take k (frames state)) ≡ true)
+Inv-loop state target n asked k₀ k = (k ≤ n) × (all (λ (m : Marked). not (bit (m .disabled) target)) (take k (frames state)) ≡ true)
 
 abbrev μ-loop : tie.MeasureT-loop
-μ-loop state target n k₀ k = n - k
+μ-loop state target n asked k₀ k = n - k
+
+-- the test of the word of the bit is the test of the bit
+disabled-here : (c : tie.After-meet Inv-loop μ-loop)
+    → let a = c .before .before .before .before .before .args in
+    c .meet .result ≡ bit (getD (frames (a .state .now)) (c .before .before .before .loop .k) nobody .disabled) (a .target)
+disabled-here c =
+    let looped = c .before .before .before in
+    let t = looped .before .before .args .target in
+    c .meet .ensures .alone _ (looped .before .with .ensures) ∙ ap (λ (m : Marked). bit (m .disabled) t) (c .before .frame-at .ensures)
+
+with-requires : tie.Need-with-requires Inv-loop μ-loop
+with-requires c κs = search needs
 
 loop-holds : tie.Need-loop-holds Inv-loop μ-loop
 loop-holds c = (omega arith, refl)
@@ -26,11 +39,14 @@ loop-holds c = (omega arith, refl)
 frame-at-requires : tie.Need-frame-at-requires Inv-loop μ-loop
 frame-at-requires c κs = search needs
 
-has-requires : tie.Need-has-requires Inv-loop μ-loop
-has-requires c κs = search needs
+meet-requires : tie.Need-meet-requires Inv-loop μ-loop
+meet-requires c κs = search needs
 
 returns : tie.Need-returns Inv-loop μ-loop
-returns c = all-fails (λ (m : Marked). not (bit (m .disabled) (c .before .before .before .before .before .args .target))) (rw (bit-none (c .before .before .before .before .before .args .target))) _ _ _ (c .before .before .before .loop-test .taken) (rw (← c .before .before .frame-at .ensures, ← c .before .has .ensures, c .if1 .taken))
+returns c =
+    let looped = c .before .before .before in
+    let t = looped .before .before .before .args .target in
+    all-fails (λ (m : Marked). not (bit (m .disabled) t)) (rw (bit-none t)) _ _ _ (looped .loop-test .taken) (rw (← disabled-here (c .before), c .if1 .taken))
 
 add-k : tie.Need-add-k Inv-loop μ-loop
 add-k c = search needs
@@ -39,10 +55,14 @@ loop-less : tie.Need-loop-less Inv-loop μ-loop
 loop-less c = search needs
 
 loop-again : tie.Need-loop-again Inv-loop μ-loop
-loop-again c = (omega arith, all-more (λ (m : Marked). not (bit (m .disabled) (c .before .before .before .before .before .args .target))) (c .before .before .before .before .loop .k) (frames (c .before .before .before .before .before .args .state .now)) (c .before .before .before .before .loop .inv .1) (rw (← c .before .before .frame-at .ensures, ← c .before .has .ensures, c .if1 .left)))
+loop-again c =
+    let looped = c .before .before .before .before in
+    let a = looped .before .before .args in
+    let more = all-more (λ (m : Marked). not (bit (m .disabled) (a .target))) (looped .loop .k) (frames (a .state .now)) (looped .loop .inv .1) in
+    (omega arith, more (rw (← disabled-here (c .before), c .if1 .left)))
 
 returns-2 : tie.Need-returns-2 Inv-loop μ-loop
-returns-2 c = let e : c .before .loop .k ≡ c .before .before .args .n = omega arith in sym (rw e at (c .before .loop .inv .1))
+returns-2 c = let e : c .before .loop .k ≡ c .before .before .before .args .n = omega arith in sym (rw e at (c .before .loop .inv .1))
 
 pub none-disabled-spec : {M : Type 1} → statement M
 none-disabled-spec =
@@ -50,9 +70,10 @@ none-disabled-spec =
     (tie.spec
     Inv-loop
     μ-loop
+    with-requires
     loop-holds
     frame-at-requires
-    has-requires
+    meet-requires
     returns
     add-k
     loop-less

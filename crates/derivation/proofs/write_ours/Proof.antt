@@ -1,64 +1,63 @@
--- The first j steps of ours stand at the front, one more at each turn.
+-- The take, rule 1, rule 2 and the drops, each where the one before it ends.
 use borrow.Author.Needs.{needs}
-use mathlib.Core.Path.{_≡_, refl}
-use Prim.Native.Nat.{_+_, _-_, _*_, _≤_}
 use native.Mathlib.Omega.{arith}
-use lib.ListN.{length, take, length-set}
-use lib.Seq.{sets}
-use Rattle.beliefs.specs.Derivation.{ours}
-use Rattle.derivation.proofs.Ours.{ours-more, ours-all}
+use mathlib.Core.Path.{ap, _∙_}
+use lib.ListN.{length, length-set}
+use lib.Seq.{length-sets}
+use Rattle.derivation.proofs.Ours.{ours-put}
 use Rattle.derivation.proofs.write_ours.Statement.{statement}
 use Rattle.derivation.proofs.write_ours.Tie as tie
 
-abbrev Inv-loop : tie.InvT-loop
-Inv-loop steps₀ n j₀ steps j = (j ≤ 3 * n + 1) × (length steps ≡ length steps₀) × (steps ≡ sets steps₀ 0 (take j (ours n)))
+cast-steps : tie.Need-cast-steps
+cast-steps c = search needs
 
-abbrev μ-loop : tie.MeasureT-loop
-μ-loop steps₀ n j₀ steps j = 3 * n + 1 - j
-
-loop-holds : tie.Need-loop-holds Inv-loop μ-loop
-loop-holds c = (omega arith, refl, refl)
-
-mul-loop : tie.Need-mul-loop Inv-loop μ-loop
-mul-loop c = search needs
-
-add-loop : tie.Need-add-loop Inv-loop μ-loop
-add-loop c = search needs
-
-ours-at-requires : tie.Need-ours-at-requires Inv-loop μ-loop
-ours-at-requires c κs = search needs
-
-slice-write-steps : tie.Need-slice-write-steps Inv-loop μ-loop
+slice-write-steps : tie.Need-slice-write-steps
 slice-write-steps c = search needs
 
-add-j : tie.Need-add-j Inv-loop μ-loop
-add-j c = search needs
+put-rule-requires : tie.Need-put-rule-requires
+put-rule-requires c κs = (omega arith, omega arith, simp length-set (omega arith))
 
-loop-less : tie.Need-loop-less Inv-loop μ-loop
-loop-less c = search needs
+add-put-rule : tie.Need-add-put-rule
+add-put-rule c = search needs
 
-loop-again : tie.Need-loop-again Inv-loop μ-loop
-loop-again c = (omega arith, simp length-set (c .before .before .loop .inv .1), rw (c .ours-at .ensures) (ours-more _ _ _ _ (c .before .loop-test .taken) (c .before .before .loop .inv .2)))
+put-rule-requires-2 : tie.Need-put-rule-requires-2
+put-rule-requires-2 c κs =
+    (omega arith, omega arith, rw (c .before .before .before .put-rule .ensures) (simp (length-sets, length-set) (omega arith)))
 
-same-length : tie.Need-same-length Inv-loop μ-loop
-same-length c = c .before .loop .inv .1
+mul-put-drops : tie.Need-mul-put-drops
+mul-put-drops c = search needs
 
-returns : tie.Need-returns Inv-loop μ-loop
-returns c = rw (ours-all _ _ (c .loop-test .left)) at (c .before .loop .inv .2)
+add-put-drops : tie.Need-add-put-drops
+add-put-drops c = search needs
+
+put-drops-requires : tie.Need-put-drops-requires
+put-drops-requires c κs =
+    let second = c .before .before .before in
+    let first = second .before .before .before .before in
+    let start = first .before .before .before in
+    omega (arith, second .put-rule2 .kept .0 ∙ first .put-rule .kept .0, length-set (start .args .steps .now) 0 (start .args .n))
+
+returns : tie.Need-returns
+returns c =
+    let drops = c .before .before in
+    let second = drops .before .before .before .before in
+    let first = second .before .before .before .before in
+    rw (drops .put-drops .ensures, second .put-rule2 .ensures, first .put-rule .ensures) (ours-put _ _)
+
+same-length : tie.Need-same-length
+same-length c = ap length (returns c) ∙ simp length-sets
 
 pub write-ours-spec : {M : Type 1} → statement M
 write-ours-spec =
     tie.close
     (tie.spec
-    Inv-loop
-    μ-loop
-    loop-holds
-    mul-loop
-    add-loop
-    ours-at-requires
+    cast-steps
     slice-write-steps
-    add-j
-    loop-less
-    loop-again
+    put-rule-requires
+    add-put-rule
+    put-rule-requires-2
+    mul-put-drops
+    add-put-drops
+    put-drops-requires
     same-length
     returns)

@@ -1,0 +1,76 @@
+-- What is stored before k and what is still to store from k on are together the rule at each place.
+use borrow.Author.Needs.{needs}
+use native.Mathlib.Nat.{add-zero, sub-zero}
+use native.Mathlib.Omega.{arith}
+use mathlib.Core.Path.{_≡_, refl, _∙_}
+use Prim.Native.Nat.{_+_, _-_, _≤_}
+use lib.ListN.{length, length-set}
+use lib.Seq.{sets}
+use Rattle.beliefs.specs.Derivation.{atPlaces}
+use Rattle.derivation.proofs.Ours.{places-next, put-next}
+use Rattle.derivation.proofs.put_rule.Statement.{statement}
+use Rattle.derivation.proofs.put_rule.Tie as tie
+
+abbrev Inv-loop : tie.InvT-loop
+Inv-loop steps₀ at rule n k₀ steps k =
+    (k ≤ n)
+    × (length steps ≡ length steps₀)
+    × (sets steps (at + k) (atPlaces rule k (n - k)) ≡ sets steps₀ at (atPlaces rule 0 n))
+
+abbrev μ-loop : tie.MeasureT-loop
+μ-loop steps₀ at rule n k₀ steps k = n - k
+
+loop-holds : tie.Need-loop-holds Inv-loop μ-loop
+loop-holds c = (omega arith, refl, rw (add-zero, sub-zero))
+
+mul-steps : tie.Need-mul-steps Inv-loop μ-loop
+mul-steps c = search needs
+
+cast-steps : tie.Need-cast-steps Inv-loop μ-loop
+cast-steps c = search needs
+
+add-steps : tie.Need-add-steps Inv-loop μ-loop
+add-steps c = search needs
+
+add-steps-2 : tie.Need-add-steps-2 Inv-loop μ-loop
+add-steps-2 c = search needs
+
+slice-write-steps : tie.Need-slice-write-steps Inv-loop μ-loop
+slice-write-steps c = search needs
+
+add-k : tie.Need-add-k Inv-loop μ-loop
+add-k c = search needs
+
+loop-less : tie.Need-loop-less Inv-loop μ-loop
+loop-less c = search needs
+
+loop-again : tie.Need-loop-again Inv-loop μ-loop
+loop-again c =
+    let at-loop = c .before .loop in
+    let a = c .before .before .args in
+    let turn = put-next (at-loop .steps) (a .at) (at-loop .k) _ _ _ (places-next (a .rule) (at-loop .k) (a .n) (c .loop-test .taken)) in
+    (omega arith, simp length-set (at-loop .inv .1), turn ∙ at-loop .inv .2)
+
+same-length : tie.Need-same-length Inv-loop μ-loop
+same-length c = c .before .loop .inv .1
+
+returns : tie.Need-returns Inv-loop μ-loop
+returns c = let z : c .before .before .args .n - c .before .loop .k ≡ 0 = omega arith in rw z at (c .before .loop .inv .2)
+
+pub put-rule-spec : {M : Type 1} → statement M
+put-rule-spec =
+    tie.close
+    (tie.spec
+    Inv-loop
+    μ-loop
+    loop-holds
+    mul-steps
+    cast-steps
+    add-steps
+    add-steps-2
+    slice-write-steps
+    add-k
+    loop-less
+    loop-again
+    same-length
+    returns)
