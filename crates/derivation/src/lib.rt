@@ -135,7 +135,7 @@ fn permit(policy: &[u64; 35], state: &[u64; 190], target: u8, chain: Chain, step
         return Turn::Refused;
     }
     let frame = frame_at(state, k as u64);
-    // By the word of the target's bit, which is the same at every step: `policy::permits` would shift each row anew.
+    // By the word of the target's bit, which is the same at every step: a test of the bit itself would shift each row anew.
     if !bits::meet(policy::row(policy, frame.signer), bits::with(0, target)) {
         return Turn::Refused;
     }
