@@ -96,3 +96,32 @@ run-uncounted p trace room = go (valid p) (eqb (length trace % 2) 0) (ltb room (
     go true true false = runFrom-uncounted p 0 trace [] (omega arith)
     go true false c = refl
     go false b c = refl
+
+-- a run writes as many bytes as its figure says, and no more than the trace has words
+pub record Answered (words i : ℕ) (a : Account) : Type 0 where
+  pub figure : a .figure ≡ i + length (a .written)
+  pub few : length (a .written) ≤ words
+
+module _ (counts : Bool) (p : List ℕ) where
+  runFrom-answered : (i : ℕ) (trace : List ℕ) (st : List Frame) → Answered (length trace / 2) i (runFrom counts p i trace st)
+  unfolding runFrom
+  runFrom-answered i [] st = record { figure = omega arith; few = omega arith }
+  runFrom-answered i (a ∷ []) st = record { figure = omega arith; few = omega arith }
+  runFrom-answered i (a ∷ b ∷ rest) st =
+      let o : Outcome = served p (decoded (signers p) (targets p) (256 * a + b) i) st in
+      go o (eqb (o .number) 0) (runFrom counts p (suc i) rest (o .stack)) (runFrom-answered (suc i) rest (o .stack))
+    where
+      go : (o : Outcome) (e : Bool) (more : Account) → Answered (length rest / 2) (suc i) more
+          → Answered (length (a ∷ b ∷ rest) / 2) i (cond e (before (answerByte counts o ∷ []) more) (told (o .number) i))
+      go o true more h = record { figure = omega (arith, h .figure); few = omega (arith, h .few) }
+      go o false more h = record { figure = omega arith; few = omega arith }
+
+  pub run-answered : (trace : List ℕ) (room : ℕ) → Answered (length trace / 2) 0 (run counts p trace room)
+  unfolding run
+  run-answered trace room = go (valid p) (eqb (length trace % 2) 0) (ltb room (length trace / 2))
+    where
+      go : (a b c : Bool) → Answered (length trace / 2) 0 (cond a (cond b (cond c (told 9 0) (runFrom counts p 0 trace [])) (told 1 0)) (told 13 0))
+      go true true true = record { figure = refl; few = omega arith }
+      go true true false = runFrom-answered 0 trace []
+      go true false c = record { figure = refl; few = omega arith }
+      go false b c = record { figure = refl; few = omega arith }

@@ -4,9 +4,9 @@ use mathlib.Core.Logic.{_≢_}
 use mathlib.Core.Bool.{Bool, true, false, cond}
 use mathlib.Core.List.{List}
 use Prim.Native.Nat.{ℕ, _+_}
-use native.Mathlib.Omega.{arith}
 use lib.Dec.{eqb}
 use borrow.Author.Tests.{ne-eqb}
+use Rattle.bits.proofs.Laws.{never}
 use Rattle.beliefs.specs.declared.Operation.{Operation}
 use Rattle.beliefs.specs.declared.Word.{Word as Held}
 use Rattle.beliefs.specs.declared.Decoded.{Decoded}
@@ -39,9 +39,6 @@ module _ (Pictures : List ℕ → List Frame → Type 0) (counts : Bool) where
 
 -- each way out of an engine's `operate`
 module _ (Pictures : List ℕ → List Frame → Type 0) (counts fits : Bool) (act : Operation → Moved) (p s : List ℕ) (w lent : ℕ) where
-  never : {A : Type 0} → true ≡ false → A
-  never e = let z : _≡_ {A = ℕ} 0 1 = cc in absurd (omega arith)
-
   -- 13
   pub bad-policy : valid p ≡ false → Operate Pictures counts fits act p s w 13 lent lent s
   unfolding guarded

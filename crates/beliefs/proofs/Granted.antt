@@ -41,7 +41,7 @@ unfolding granted
 granted-split p t f r = split p t (permitted p t (f .principal)) (f .beliefs)
 
 -- a belief on t that is not on u, where u is not t
-eqb-comm : (a b : ℕ) → eqb a b ≡ eqb b a
+pub eqb-comm : (a b : ℕ) → eqb a b ≡ eqb b a
 eqb-comm a b = go (eqb b a) refl
   where
     go : (e : Bool) → eqb b a ≡ e → eqb a b ≡ e

@@ -17,6 +17,10 @@ use native.Mathlib.Decide.{decLt}
 use borrow.Author.Tests.{lt-ltb, le-ltb, ne-eqb, eq-eqb, eqb-true, eqb-false}
 use Rattle.bits.specs.Bit.{bit, withBit, withoutBit, meet, below, allBelow, lowest}
 
+-- true is not false
+pub never : {A : Type 0} → _≡_ {A = Bool} true false → A
+never e = let z : _≡_ {A = ℕ} 0 1 = cc in absurd (omega arith)
+
 -- one bit of 2 ^ t
 pow-bit-same : (t : ℕ) → 2 ^ t / 2 ^ t % 2 ≡ 1
 pow-bit-same t = ap (λ (x : ℕ). x % 2) (div-self (pow-pos t))
@@ -264,10 +268,7 @@ meet-alone w t h = go (decLt t 64)
         other u false q = and-false (bit w u)
 
     some : t < 64 → bit w t ≡ true → both ≢ 0
-    some l e z =
-        let yes-no : true ≡ false = cc (at t l, e, eq-eqb t t refl, ap (λ (x : ℕ). bit x t) z, bit-none t) in
-        let zero-one : _≡_ {A = ℕ} 0 1 = cc in
-        absurd (omega arith)
+    some l e z = never (cc (at t l, e, eq-eqb t t refl, ap (λ (x : ℕ). bit x t) z, bit-none t))
 
     inside : t < 64 → (x : Bool) → bit w t ≡ x → not (eqb both 0) ≡ x
     inside l true e = rw (ne-eqb both 0 (some l e))

@@ -5,6 +5,7 @@ use mathlib.Core.Logic.{_≢_, _↔_}
 use mathlib.Core.Bool.{Bool, true, false}
 use mathlib.Core.List.{List, _∷_, map}
 use Prim.Native.Nat.{ℕ, _+_, _*_, _≤_, _<_}
+use native.Mathlib.Omega.{arith}
 use lib.ListN.{length}
 use lib.Seq.{sets}
 use borrow.Author.Tests.{ne-eqb, lt-ltb, le-ltb}
@@ -26,7 +27,8 @@ use Rattle.runner.proofs.Equal.{OneVerdict, three-runs}
 use Rattle.derivation.specs.Promise as promised
 use Rattle.derivation.specs.Reached.{Reached}
 use Rattle.derivation.proofs.Demand.{Settled, settled}
-use Rattle.demands.proofs.Refused.{walk-leaves, record-leaves, word-leaves, run-figure, Silent, policy-silent, derivation-silent}
+use Rattle.beliefs.proofs.Counts.{run-answered}
+use Rattle.demands.proofs.Refused.{walk-leaves, record-leaves, word-leaves, Silent, policy-silent, derivation-silent}
 
 -- 1. "Every policy, trace, state and derivation, damaged or invented, gets an answer, and every run ends."
 -- Each exported function is total: its promise has no premise, and the check proves that it returns. What it answers is a definition's value at those
@@ -48,7 +50,7 @@ read-refused bytes lent r left h nz = h .value ∙ rw (ne-eqb (readNumber bytes)
 -- "Document 01 says which bytes of a lent buffer are written, and no others are": a run writes as many answers as its figure says, at the front.
 pub run-writes : (counts : Bool) (p trace lent left : List ℕ) (r : Report) → Reports r lent left (run counts p trace (length lent))
     → (written : List ℕ) × (left ≡ sets lent 0 written) × (r .figure ≡ length written)
-run-writes counts p trace lent left r h = (run counts p trace (length lent) .written, h .buffer, h .figure ∙ run-figure counts p trace (length lent))
+run-writes counts p trace lent left r h = (run counts p trace (length lent) .written, h .buffer, omega (arith, h .figure, run-answered counts p trace (length lent) .figure))
 
 -- A writer, of a policy or of a derivation, that refuses writes nothing.
 nothing-written : (lent left : List ℕ) (r : Report) (a : Account) → Reports r lent left a → Silent a → r .number ≢ 0 → left ≡ lent

@@ -2,23 +2,20 @@
 use mathlib.Core.Path.{_≡_, refl, _∙_}
 use mathlib.Core.Logic.{_≢_}
 use mathlib.Core.Bool.{Bool, true, false, cond}
-use mathlib.Core.List.{List, [], _∷_}
-use Prim.Native.Nat.{ℕ, suc, _+_, _*_, _-_, _/_, _%_}
-use native.Mathlib.Omega.{arith}
+use mathlib.Core.List.{List, []}
+use Prim.Native.Nat.{ℕ, _+_, _*_}
 use lib.Dec.{eqb, ltb}
-use lib.ListN.{length}
 use borrow.Author.Tests.{ne-eqb}
 use Rattle.beliefs.specs.declared.Operation.{Operation}
 use Rattle.beliefs.specs.declared.Operation.the-variants.{Call, Return, Enable, Disable, Revert, Check}
 use Rattle.beliefs.specs.declared.Decoded.{Decoded}
 use Rattle.beliefs.specs.declared.Decoded.the-variants.{Word, Refused}
-use Rattle.beliefs.specs.Account.{Account, told, before}
+use Rattle.beliefs.specs.Account.{Account, told}
 use Rattle.beliefs.specs.Lists.{empty}
 use Rattle.beliefs.specs.Policy.{signers, targets, size, valid, writing}
-use Rattle.beliefs.specs.Stack.{Frame, walk as walked}
+use Rattle.beliefs.specs.Stack.{walk as walked}
 use Rattle.beliefs.specs.Derivation.{derived}
 use Rattle.beliefs.specs.Words.{decoded}
-use Rattle.beliefs.specs.Trace.{Outcome, answerByte, served, runFrom, run}
 use Rattle.beliefs.specs.Engine.{Moved, refuseIn, decodedIn, guarded, Operated}
 use Rattle.walk.specs.State as walk
 use Rattle.record.specs.Record as record′
@@ -70,31 +67,6 @@ module _ (s : List ℕ) where
       let mz : m .number ≢ 0 = λ e. nz (o .number ∙ e) in
       let same : Leaves s m = either (valid p) _ _ (either fits _ _ (decoded-leaves act h (decoded (signers p) (targets p) w 0)) (left 14)) (left 13) in
       (o .state ∙ same .keeps mz, o .answer ∙ rw (ne-eqb (m .number) 0 mz))
-
--- a run writes as many bytes as its figure says
-runFrom-figure : (counts : Bool) (p : List ℕ) (i : ℕ) (trace : List ℕ) (st : List Frame) → runFrom counts p i trace st .figure ≡ i + length (runFrom counts p i trace st .written)
-unfolding runFrom
-runFrom-figure counts p i [] st = omega arith
-runFrom-figure counts p i (a ∷ []) st = omega arith
-runFrom-figure counts p i (a ∷ b ∷ rest) st =
-    let o : Outcome = served p (decoded (signers p) (targets p) (256 * a + b) i) st in
-    go o (eqb (o .number) 0) (runFrom counts p (suc i) rest (o .stack)) (runFrom-figure counts p (suc i) rest (o .stack))
-  where
-    go : (o : Outcome) (e : Bool) (more : Account) → more .figure ≡ suc i + length (more .written)
-        → cond e (before (answerByte counts o ∷ []) more) (told (o .number) i) .figure ≡ i + length (cond e (before (answerByte counts o ∷ []) more) (told (o .number) i) .written)
-    go o true more h = omega arith
-    go o false more h = omega arith
-
-pub run-figure : (counts : Bool) (p trace : List ℕ) (room : ℕ) → run counts p trace room .figure ≡ length (run counts p trace room .written)
-unfolding run
-run-figure counts p trace room = go (valid p) (eqb (length trace % 2) 0) (ltb room (length trace / 2))
-  where
-    go : (a b c : Bool) → cond a (cond b (cond c (told 9 0) (runFrom counts p 0 trace [])) (told 1 0)) (told 13 0) .figure
-        ≡ length (cond a (cond b (cond c (told 9 0) (runFrom counts p 0 trace [])) (told 1 0)) (told 13 0) .written)
-    go true true true = refl
-    go true true false = omega (arith, runFrom-figure counts p 0 trace [])
-    go true false c = refl
-    go false b c = refl
 
 -- an account that writes nothing where it refuses
 pub record Silent (a : Account) : Type 0 where

@@ -1,5 +1,5 @@
 -- What an accepted derivation shows, whoever wrote it: some take may be made, every frame of it is permitted, and three steps were spent on each of its frames beside the take. Assumes nothing.
-use mathlib.Core.Path.{_≡_, refl}
+use mathlib.Core.Path.{_≡_, refl, sym}
 use mathlib.Core.Bool.{Bool, true, false, cond, _&&_, _||_}
 use mathlib.Core.Option.{Option, some, none, Option·map, Option·elim}
 use mathlib.Core.List.{List, [], _∷_, map}
@@ -8,13 +8,14 @@ use native.Mathlib.Omega.{arith}
 use lib.Dec.{eqb}
 use lib.ListN.{length, take}
 use lib.Seq.{length-take-le}
+use Rattle.bits.proofs.Laws.{never}
 use Rattle.beliefs.specs.declared.Marked.{Marked}
 use Rattle.beliefs.specs.Lists.{empty}
 use Rattle.beliefs.specs.Numbers.{notAllowed, notEmpty}
 use Rattle.beliefs.specs.Account.{told}
 use Rattle.beliefs.specs.Policy.{permits}
 use Rattle.beliefs.specs.Derivation.{Entry, frame, signer, target, mayTake, taken, spoken, allowed, atPlace, dropFrom, dropLast, rule, place, follow, judge}
-use Rattle.derivation.proofs.Deciding.{speak, Stands, may-within, never}
+use Rattle.derivation.proofs.Deciding.{speak, Stands, may-within}
 
 -- a frame is three steps from being dropped, a signer two, T one
 weightOf : Entry → ℕ
@@ -200,4 +201,4 @@ module _ (p : List ℕ) (t : ℕ) where
         go (some l) q ih k = let same : suc i + length bs ≡ i + suc (length bs) = omega arith in rw (← same) (ih l (new l q (eqb (rule b) 0) refl) k)
 
     pub accepted-shows : (steps : List ℕ) → judge p ms t false 0 [] steps .number ≡ 0 → Shown (length steps)
-    accepted-shows steps h = let same : 0 + length steps ≡ length steps = omega arith in rw (← same) (shows steps false 0 [] (λ k. never k) h)
+    accepted-shows steps h = let same : 0 + length steps ≡ length steps = omega arith in rw (← same) (shows steps false 0 [] (λ k. never (sym k)) h)

@@ -1,5 +1,5 @@
 -- Where the walk grants, its deciding frame is one that a chain may end at, and the first such; where a chain may end at a frame with every frame of it permitted, the walk grants there or before. Assumes nothing.
-use mathlib.Core.Path.{_≡_, refl}
+use mathlib.Core.Path.{_≡_, refl, sym}
 use mathlib.Core.Bool.{Bool, true, false, cond, not, _&&_}
 use mathlib.Core.List.{List, [], _∷_}
 use Prim.Native.Nat.{ℕ, zero, suc, _-_, _≤_, _<_}
@@ -8,6 +8,7 @@ use lib.Dec.{leb}
 use lib.ListN.{length, getD, take}
 use borrow.Author.Tests.{leb-true, le-leb}
 use Rattle.bits.specs.Bit.{bit}
+use Rattle.bits.proofs.Laws.{never}
 use Rattle.beliefs.specs.declared.Marked.{Marked}
 use Rattle.beliefs.specs.declared.Seen.{Seen}
 use Rattle.beliefs.specs.Lists.{all}
@@ -46,11 +47,8 @@ pub record Granted (v : Seen) (n : ℕ) : Type 0 where
   pub granted : v .granted ≡ true
   pub looked : v .looked ≤ n
 
-pub never : {A : Type 0} → false ≡ true → A
-never e = let z : _≡_ {A = ℕ} 0 1 = cc in absurd (omega arith)
-
 not-false : (d : Bool) → not d ≡ true → d ≡ false
-not-false true h = never h
+not-false true h = never (sym h)
 not-false false h = refl
 
 module _ (p : List ℕ) (t : ℕ) where
@@ -86,16 +84,16 @@ module _ (p : List ℕ) (t : ℕ) where
   -- where the walk grants, a take of the frames looked at may be made, and every frame of it is permitted
   pub granted-stands : (ms : List Marked) → walk p t ms .granted ≡ true → Stands p t ms (walk p t ms .looked)
   unfolding walk
-  granted-stands [] h = never h
+  granted-stands [] h = never (sym h)
   granted-stands (m ∷ ms) h = go (permits p (m .signer) t) refl (bit (m .enabled) t) refl (bit (m .disabled) t) refl (granted-stands ms) h
     where
       go : (q : Bool) → permits p (m .signer) t ≡ q → (e : Bool) → bit (m .enabled) t ≡ e → (d : Bool) → bit (m .disabled) t ≡ d
           → (walk p t ms .granted ≡ true → Stands p t ms (walk p t ms .looked))
           → cond q (cond e (decides true) (cond d (decides false) (goesOn (walk p t ms)))) (decides false) .granted ≡ true
           → Stands p t (m ∷ ms) (cond q (cond e (decides true) (cond d (decides false) (goesOn (walk p t ms)))) (decides false) .looked)
-      go false q e qe d qd below g = never g
+      go false q e qe d qd below g = never (sym g)
       go true q true qe d qd below g = whole (m ∷ ms) 0 (record { within = omega arith; enabled = qe; clear = refl; permitted = rw q })
-      go true q false qe true qd below g = never g
+      go true q false qe true qd below g = never (sym g)
       go true q false qe false qd below g = more m ms (walk p t ms .looked) q qd (below g)
 
   -- where such a take may be made, the walk grants, and looks at no more frames

@@ -5,10 +5,10 @@ use mathlib.Core.Logic.{_≢_}
 use mathlib.Core.Bool.{Bool, true, false, cond}
 use mathlib.Core.List.{List, [], _∷_}
 use Prim.Native.Nat.{ℕ}
-use native.Mathlib.Omega.{arith}
 use lib.Dec.{eqb, ltb}
 use lib.ListN.{length}
 use borrow.Author.Tests.{eqb-true, ne-eqb}
+use Rattle.bits.proofs.Laws.{never}
 use Rattle.beliefs.specs.declared.Operation.{Operation}
 use Rattle.beliefs.specs.declared.Operation.the-variants.{Call, Return, Enable, Disable, Revert, Check}
 use Rattle.beliefs.specs.Policy.{valid}
@@ -54,7 +54,7 @@ led : (p s : List ℕ) (op : Operation) (st : List Frame) → returns op ≡ fal
     → Follows p 0 (wordsOf (after p (passedIn s) op)) (step p op st)
 unfolding ledTo
 led p s (Call g) st e x = record { number = sym (x .number); pictures = x .pictures }
-led p s Return st e x = let z : _≡_ {A = ℕ} 0 1 = cc in absurd (omega arith)
+led p s Return st e x = never e
 led p s (Enable t) st e x = record { number = sym (x .number); pictures = x .pictures }
 led p s (Disable t) st e x = record { number = sym (x .number); pictures = x .pictures }
 led p s (Revert t) st e x = record { number = sym (x .number); pictures = x .pictures }

@@ -1,21 +1,19 @@
 -- The lines at the places of a run's listing are the listing's text, and so are the pages that `fill` promises. Assumes nothing.
 use mathlib.Core.Path.{_≡_, refl, sym, ap, ap₂, _∙_}
 use mathlib.Core.Logic.{_≢_}
-use mathlib.Core.Bool.{Bool, true, false, cond}
-use mathlib.Core.List.{List, [], _∷_, _++_, append-assoc, append-nil}
-use Prim.Native.Nat.{ℕ, zero, suc, _+_, _-_, _*_, _/_, _%_, _≤_, _<_}
+use mathlib.Core.Bool.{true}
+use mathlib.Core.List.{List, _++_, append-assoc, append-nil}
+use Prim.Native.Nat.{ℕ, zero, suc, _+_, _-_, _/_, _≤_, _<_}
 use native.Mathlib.Nat.{add-zero, sub-zero, le-trans}
 use native.Mathlib.Omega.{arith}
-use lib.Dec.{eqb, ltb}
 use lib.ListN.{length, getD, take, drop, List·getD-append}
 use lib.Seq.{sets, sets-eq}
 use borrow.Author.Tests.{lt-ltb, le-ltb, eq-eqb, ne-eqb}
 use Rattle.beliefs.specs.declared.Report.{Report}
-use Rattle.beliefs.specs.Account.{Account, Reports, told, before}
-use Rattle.beliefs.specs.Policy.{signers, targets, valid, readNumber, valueRead}
-use Rattle.beliefs.specs.Stack.{Frame}
-use Rattle.beliefs.specs.Words.{decoded}
-use Rattle.beliefs.specs.Trace.{Outcome, served, answerByte, runFrom, run}
+use Rattle.beliefs.specs.Account.{Account, Reports}
+use Rattle.beliefs.specs.Policy.{readNumber, valueRead}
+use Rattle.beliefs.specs.Trace.{run}
+use Rattle.beliefs.proofs.Counts.{Answered, run-answered}
 use Rattle.policy.specs.Read.{PolicyRead, cutAt}
 use Rattle.lines.specs.Text.{policyLine, wordLine, lastLine, refusedLine, joined, listed, listedRun, read, listing}
 use Rattle.lines.specs.Page.{wordsRun, places, lineAt, pages}
@@ -73,34 +71,6 @@ module _ (p trace answers : List ℕ) (r : Report) (h : r .figure ≤ length tra
       rw (all-run, e, joined-last (lineAt p trace answers r) (suc (r .figure)) 0, last-line)
       (ap (λ (l : List ℕ). l ++ lastLine (r .number) (r .figure)) first-lines)
 
--- a run answers as many words as its figure says, and no more than the trace has
-record Answered (words i : ℕ) (a : Account) : Type 0 where
-  figure : a .figure ≡ i + length (a .written)
-  few : length (a .written) ≤ words
-
-runFrom-answered : (p : List ℕ) (i : ℕ) (trace : List ℕ) (st : List Frame) → Answered (length trace / 2) i (runFrom true p i trace st)
-unfolding runFrom
-runFrom-answered p i [] st = record { figure = omega arith; few = omega arith }
-runFrom-answered p i (a ∷ []) st = record { figure = omega arith; few = omega arith }
-runFrom-answered p i (a ∷ b ∷ rest) st =
-    let o : Outcome = served p (decoded (signers p) (targets p) (256 * a + b) i) st in
-    go o (eqb (o .number) 0) (runFrom true p (suc i) rest (o .stack)) (runFrom-answered p (suc i) rest (o .stack))
-  where
-    go : (o : Outcome) (e : Bool) (more : Account) → Answered (length rest / 2) (suc i) more
-        → Answered (length (a ∷ b ∷ rest) / 2) i (cond e (before (answerByte true o ∷ []) more) (told (o .number) i))
-    go o true more h = record { figure = omega (arith, h .figure); few = omega (arith, h .few) }
-    go o false more h = record { figure = omega arith; few = omega arith }
-
-run-answered : (p trace : List ℕ) (room : ℕ) → Answered (length trace / 2) 0 (run true p trace room)
-unfolding run
-run-answered p trace room = go (valid p) (eqb (length trace % 2) 0) (ltb room (length trace / 2))
-  where
-    go : (a b c : Bool) → Answered (length trace / 2) 0 (cond a (cond b (cond c (told 9 0) (runFrom true p 0 trace [])) (told 1 0)) (told 13 0))
-    go true true true = record { figure = refl; few = omega arith }
-    go true true false = runFrom-answered p 0 trace []
-    go true false c = record { figure = refl; few = omega arith }
-    go false b c = record { figure = refl; few = omega arith }
-
 -- more room than words is as good as enough
 run-room : (p trace : List ℕ) (room : ℕ) → length trace / 2 ≤ room → run true p trace room ≡ run true p trace (length trace / 2)
 unfolding run
@@ -124,7 +94,7 @@ pub run-text : (p trace lent left : List ℕ) (r : Report) (room : ℕ) → leng
     → pages (lineAt p trace left r) room (places trace r) (places trace r) 0 ≡ listedRun p trace (run true p trace (length trace / 2))
 run-text p trace lent left r room h t k =
     let a : Account = run true p trace (length lent) in
-    let answered : Answered (length trace / 2) 0 a = run-answered p trace (length lent) in
+    let answered : Answered (length trace / 2) 0 a = run-answered true p trace (length lent) in
     let figure : r .figure ≡ length (a .written) = omega (arith, t .figure, answered .figure) in
     let few : r .figure ≤ length trace / 2 = omega (arith, answered .few) in
     let line : ℕ → List ℕ = lineAt p trace left r in

@@ -18,7 +18,7 @@ use Rattle.beliefs.specs.Lists.{any, keep, empty}
 use Rattle.beliefs.specs.Policy.{signers, targets}
 use Rattle.beliefs.specs.Stack.{Principal, Belief, Frame, on, own, said, oks, full, called, enable, disable, revert}
 use Rattle.beliefs.proofs.Lists.{any-map, any-ext, any-and, any-never, any-keep}
-use Rattle.beliefs.proofs.Granted.{any-off, own-start}
+use Rattle.beliefs.proofs.Granted.{any-off, own-start, eqb-comm}
 use Rattle.record.specs.Record.{depth, heldAt, held, filled, startTargets, startWord, longer, handed, calledIn, clearedIn, heldIn}
 use Rattle.record.specs.Pictures.{AllFounded, withLength, FramePictured, FramesPictured, Pictures}
 use Rattle.record.proofs.Runs.{length-filled, filled-other, filled-at}
@@ -70,13 +70,6 @@ module _ (p : List ℕ) where
   founded-oks (suc n) l = (record { target = l; chain = refl }, founded-oks n (omega arith))
 
 -- Ok(T) itself is what is held with length 0
-eqb-comm : (a b : ℕ) → eqb a b ≡ eqb b a
-eqb-comm a b = go (eqb b a) refl
-  where
-    go : (e : Bool) → eqb b a ≡ e → eqb a b ≡ e
-    go true q = eq-eqb a b (sym (eqb-true b a q))
-    go false q = ne-eqb a b (λ h. eqb-false b a q (sym h))
-
 empty-length : {A : Type 0} (l : List A) → empty l ≡ eqb 0 (length l)
 empty-length [] = refl
 empty-length (a ∷ l) = sym (eqb·zero-suc (length l))

@@ -6,6 +6,7 @@ use mathlib.Core.List.{List, []}
 use Prim.Native.Nat.{ℕ, _+_, _*_, _≤_, _<_}
 use native.Mathlib.Omega.{arith}
 use lib.ListN.{length, set}
+use Rattle.bits.proofs.Laws.{never}
 use Rattle.beliefs.specs.declared.Word.{Word as Held}
 use Rattle.beliefs.specs.declared.Decoded.{Decoded}
 use Rattle.beliefs.specs.declared.Decoded.the-variants.{Word, Refused as Bad}
@@ -84,13 +85,10 @@ module _ (p trace lent : List ℕ) (st : List Frame) (from i : ℕ) (s : Passed)
           answered = rw (o .under) at (then-more false p trace lent st from (i + 1) (served p d (g .stack) .stack) (set answers i 0) (word 0 (o .number) (sym (o .byte))) at _ left (l .left _ (o .pictures) .1));
         }
 
-never : {A : Type 0} → _≡_ {A = Bool} false true → A
-never e = let z : _≡_ {A = ℕ} 0 1 = cc in absurd (omega arith)
-
 -- the same for every stack that the frame's first state pictures
 module _ (p trace lent : List ℕ) (s₀ : Passed) (from i : ℕ) (s : Passed) (answers : List ℕ) (later : from ≤ i) (far : (st : List Frame) → PassedOf p s₀ st → Far p trace lent st from i s answers) where
   left-over : (at n : ℕ) (left : List ℕ) → ((st : List Frame) → PassedOf p s₀ st → Stopped false p trace lent st from at n left) → Leaves p trace lent s₀ from at n false left
-  left-over at n left h = record { later = never; left = h }
+  left-over at n left h = record { later = λ e. never (sym e); left = h }
 
   pub leaves-over : length trace ≤ 2 * i → Leaves p trace lent s₀ from i 0 false answers
   leaves-over h = left-over i 0 answers (λ st k. over p trace lent st from i s answers (far st k) h)
@@ -111,13 +109,13 @@ module _ (p trace lent : List ℕ) (s₀ : Passed) (from i : ℕ) (s : Passed) (
 
       module _ (s′ : Passed) (q : n ≡ Down s′) (at m : ℕ) (left : List ℕ) where
         pub leaves-down : (back : Bool) → back ≡ false → Leaves p trace (set answers i 0) s′ (i + 1) at m back left → Leaves p trace lent s₀ from at m back left
-        leaves-down true b l = never (sym b)
+        leaves-down true b l = never b
         leaves-down false b l = left-over at m left (λ st k. down-over p trace lent st from i s answers (far st k) more d e v x r n h s′ q at m left l)
 
         pub far-back : (back : Bool) → back ≡ true → Leaves p trace (set answers i 0) s′ (i + 1) at m back left
             → (i < at) × ((st : List Frame) → PassedOf p s₀ st → Far p trace lent st from at s left)
         far-back true b l = (omega (arith, l .later refl), λ st k. down-back p trace lent st from i s answers (far st k) more d e v x r n h s′ q at m left l)
-        far-back false b l = never b
+        far-back false b l = never (sym b)
 
 -- with no frame there is nothing to return to, so a run from a fresh start is left only where it is over
 pub whole-run : (p trace lent : List ℕ) (s : Passed) (at n : ℕ) (back : Bool) (left : List ℕ) → PassedOf p s [] → Leaves p trace lent s 0 at n back left → Stopped false p trace lent [] 0 at n left
