@@ -2,10 +2,12 @@
 use mathlib.Core.Path.{_≡_}
 use mathlib.Core.Bool.{cond}
 use mathlib.Core.List.{List}
-use Prim.Native.Nat.{ℕ, _<_}
+use Prim.Native.Nat.{ℕ, _+_, _<_}
 use lib.Dec.{eqb, ltb}
 use lib.ListN.{length, getD}
-use Rattle.beliefs.specs.Policy.{header, headSigners, headTargets, size, readNumber, valueRead}
+use Rattle.bits.specs.Bit.{below}
+use Rattle.beliefs.specs.Lists.{each}
+use Rattle.beliefs.specs.Policy.{row, header, headSigners, headTargets, size, readNumber, valueRead}
 
 -- document 01's number for these bytes; the value is what they say where that is 0, and as it was lent where they are refused
 pub record PolicyRead (bytes lent : List ℕ) (r : ℕ) (left : List ℕ) : Type 0 where
@@ -22,3 +24,7 @@ least a b = cond (ltb a b) a b
 
 unfoldable pub cutAt : List ℕ → ℕ
 cutAt bs = cond (ltb (length bs) 2) (length bs) (least (size (headSigners (header bs)) (headTargets (header bs))) (length bs))
+
+-- a word that has no bit at n or above exactly where none of k rows has
+pub record Together (p : List ℕ) (from k w : ℕ) : Type 0 where
+  pub holds : (n : ℕ) → below w n ≡ each (λ i. below (row p (from + i)) n) k

@@ -1,7 +1,7 @@
 // The policy value: what it says, whether it is valid, and its one byte form.
 ghost use mathlib.Core.Path.{_≡_};
 ghost use mathlib.Core.Bool.{true};
-ghost use Prim.Native.Nat.{_+_, _*_, _≤_};
+ghost use Prim.Native.Nat.{_+_, _-_, _*_, _≤_};
 ghost use lib.ListN.{length, getD, take, drop};
 ghost use lib.Seq.{sets};
 ghost use Rattle.bits.specs.Bit.{below};
@@ -11,7 +11,7 @@ ghost use Rattle.beliefs.specs.Policy.{signers, targets, row, within, rowFits, 
 ghost use Rattle.beliefs.specs.Policy.{width, size, mirrored, rowOf, rowBytes, rowsOf, rowsBytes, header, headSigners, headTargets, headed};
 ghost use Rattle.beliefs.specs.Policy.{readNumber, valueRead, bytesWritten, writing};
 ghost use Rattle.beliefs.specs.Stack.{full};
-ghost use Rattle.policy.specs.Read.{PolicyRead, cutAt};
+ghost use Rattle.policy.specs.Read.{PolicyRead, Together, cutAt};
 
 // Whether the start is full.
 pub fn is_full(policy: &[u64; 35]) -> bool
@@ -45,17 +45,29 @@ pub fn row(policy: &[u64; 35], signer: u64) -> u64
     whole[3 + signer as usize]
 }
 
+// The bits of the rows from one up to another, together. Two tests of many rows are quicker than one for each row.
+fn rows_together(policy: &[u64; 35], from: u64, to: u64) -> u64
+    requires { ⌜ from ≤ to ⌝ }
+    ensures { λ r. ⌜ Together (now (policy .entry)) from (to - from) r ⌝ }
+{
+    let mut together: u64 = 0;
+    let mut s = from;
+    while s < to {
+        together = together | row(policy, s);
+        s += 1;
+    }
+    together
+}
+
 // Whether the rows are as number 13 asks: below S no target at N or above, from S on nothing.
 fn rows_fit(policy: &[u64; 35]) -> bool
     requires { ⌜ signers (now policy) ≤ 32 ⌝ }
     ensures { λ r. ⌜ r ≡ each (rowFits (now (policy .entry))) 32 ⌝ }
 {
-    let whole: &[u64] = policy;
-    let past = 3 + signers(policy) as usize;
-    if !bits::all_fit(&whole[3..past], targets(policy)) {
+    if !bits::fits(rows_together(policy, 0, signers(policy)), targets(policy)) {
         return false;
     }
-    bits::all_fit(&whole[past..35], 0)
+    rows_together(policy, signers(policy), 32) == 0
 }
 
 // Whether n is from 1 to `most`.

@@ -1,84 +1,59 @@
--- The rows below S and those from S on are two parts of the value, each tested at once (Fits).
+-- The rows below S and those from S on are each tested together (Fits).
 use borrow.Author.Needs.{needs}
 use borrow.Author.Tests.{not-true, not-false}
-use native.Mathlib.Omega.{arith}
 use mathlib.Core.Path.{_≡_, _∙_}
 use mathlib.Core.Bool.{_&&_}
-use Prim.Native.Nat.{_-_, _+_}
-use lib.ListN.{take, drop}
-use Rattle.bits.specs.Bit.{allBelow}
+use Prim.Native.Nat.{_+_, _-_}
+use Rattle.bits.specs.Bit.{below}
 use Rattle.beliefs.specs.Lists.{each}
-use Rattle.beliefs.specs.Policy.{signers, rowFits}
-use Rattle.policy.proofs.Fits.{rows-parted}
+use Rattle.beliefs.specs.Policy.{signers, row, rowFits}
+use Rattle.policy.proofs.Fits.{rows-parted, nothing-together}
 use Rattle.policy.proofs.rows_fit.Statement.{statement}
 use Rattle.policy.proofs.rows_fit.Tie as tie
 
 -- what is left of the definition once the rows below S were tested
-past : (c : tie.After-all-fit) → let p = c .before .before .before .before .before .args .policy .now in
-    each (rowFits p) 32 ≡ (c .all-fit .result && allBelow (take (35 - (3 + signers p)) (drop (3 + signers p) p)) 0)
+past : (c : tie.After-fits2) → let p = c .before .before .before .before .args .policy .now in
+    each (rowFits p) 32 ≡ (c .fits2 .result && each (λ i. below (row p (signers p + i)) 0) (32 - signers p))
 past c =
-    let s = c .before .before .before .signers .result in
-    let wide : 3 + s - 3 ≡ s = omega arith in
-    rows-parted _ (search needs) (c .before .before .before .before .before .pre)
-    ∙ rw (← c .before .targets .ensures, ← c .before .before .before .signers .ensures, c .all-fit .ensures, wide)
+    let a = c .before .before .before .before .args in
+    rows-parted (a .policy .now) (c .before .before .rows-together .result) (c .before .before .before .before .pre) (rw (← c .before .before .before .signers .ensures) (c .before .before .rows-together .ensures))
+    ∙ rw (← c .before .targets .ensures, c .fits2 .ensures)
 
 signers-requires : tie.Need-signers-requires
 signers-requires c κs = search needs
 
-add-past : tie.Need-add-past
-add-past c = search needs
-
-sub-all-fit : tie.Need-sub-all-fit
-sub-all-fit c = search needs
-
-part-all-fit-start : tie.Need-part-all-fit-start
-part-all-fit-start c = search needs
-
-part-all-fit-end : tie.Need-part-all-fit-end
-part-all-fit-end c = search needs
+rows-together-requires : tie.Need-rows-together-requires
+rows-together-requires c κs = search needs
 
 targets-requires : tie.Need-targets-requires
 targets-requires c κs = search needs
 
-all-fit-requires : tie.Need-all-fit-requires
-all-fit-requires c κs = search needs
+fits-requires : tie.Need-fits-requires
+fits-requires c κs = search needs
 
 returns : tie.Need-returns
-returns c = rw (past (c .before), not-true (c .before .all-fit .result) (c .if1 .taken))
+returns c = rw (past (c .before), not-true (c .before .fits2 .result) (c .if1 .taken))
 
-mul-all-fit : tie.Need-mul-all-fit
-mul-all-fit c = search needs
+signers-requires-2 : tie.Need-signers-requires-2
+signers-requires-2 c κs = search needs
 
-sub-all-fit-2 : tie.Need-sub-all-fit-2
-sub-all-fit-2 c = search needs
-
-part-all-fit-start-2 : tie.Need-part-all-fit-start-2
-part-all-fit-start-2 c = search needs
-
-part-all-fit-end-2 : tie.Need-part-all-fit-end-2
-part-all-fit-end-2 c = search needs
-
-all-fit-requires-2 : tie.Need-all-fit-requires-2
-all-fit-requires-2 c κs = search needs
+rows-together-requires-2 : tie.Need-rows-together-requires-2
+rows-together-requires-2 c κs = search needs
 
 returns-2 : tie.Need-returns-2
-returns-2 c = rw (past (c .before .before .before), not-false (c .before .before .before .all-fit .result) (c .before .before .if1 .left), ← c .before .before .before .before .before .before .signers .ensures) (c .all-fit2 .ensures)
+returns-2 c =
+    rw (past (c .before .before .before), not-false (c .before .before .before .fits2 .result) (c .before .before .if1 .left), ← c .before .signers2 .ensures)
+    (nothing-together _ _ _ _ (c .rows-together2 .ensures))
 
 pub rows-fit-spec : {M : Type 1} → statement M
 rows-fit-spec =
     tie.close
     (tie.spec
     signers-requires
-    add-past
-    sub-all-fit
-    part-all-fit-start
-    part-all-fit-end
+    rows-together-requires
     targets-requires
-    all-fit-requires
+    fits-requires
     returns
-    mul-all-fit
-    sub-all-fit-2
-    part-all-fit-start-2
-    part-all-fit-end-2
-    all-fit-requires-2
+    signers-requires-2
+    rows-together-requires-2
     returns-2)
