@@ -1,27 +1,12 @@
 /* The host of the comparison. It reads requests, calls the library for each with buffers that have a guard on both
    sides, and writes back the answer, the later content of every buffer, and whether the guards are as they were. */
 #define _DEFAULT_SOURCE
+#include <galmuvesh.h>
 #include <stdint.h>
 #include <stdio.h>
 #include <stdlib.h>
 #include <string.h>
 #include <sys/mman.h>
-
-uint8_t galmuvesh_policy_read(const uint8_t *bytes, size_t len, uint64_t policy[35]);
-uint8_t galmuvesh_policy_write(const uint64_t policy[35], uint8_t *bytes, size_t room, uint64_t *figure);
-size_t galmuvesh_policy_cut(const uint8_t *bytes, size_t len);
-uint8_t galmuvesh_walk_run(const uint64_t policy[35], const uint8_t *trace, size_t len, uint8_t *answers, size_t room, uint64_t *figure);
-uint8_t galmuvesh_record_run(const uint64_t policy[35], const uint8_t *trace, size_t len, uint8_t *answers, size_t room, uint64_t *figure);
-uint8_t galmuvesh_passed_run(const uint64_t policy[35], const uint8_t *trace, size_t len, uint8_t *answers, size_t room, uint64_t *figure);
-uint8_t galmuvesh_walk_operate(const uint64_t policy[35], uint64_t state[190], uint16_t word, uint8_t *answer);
-uint8_t galmuvesh_record_operate(const uint64_t policy[35], uint64_t state[4096], uint16_t word, uint8_t *answer);
-uint8_t galmuvesh_passed_call(const uint64_t policy[35], uint64_t state[4], uint8_t signer);
-uint8_t galmuvesh_passed_enable(const uint64_t policy[35], uint64_t state[4], uint8_t target);
-uint8_t galmuvesh_passed_disable(const uint64_t policy[35], uint64_t state[4], uint8_t target);
-uint8_t galmuvesh_passed_revert(const uint64_t policy[35], uint64_t state[4], uint8_t target);
-uint8_t galmuvesh_passed_check(const uint64_t policy[35], const uint64_t state[4], uint8_t target, uint8_t *answer);
-uint8_t galmuvesh_derivation_write(const uint64_t policy[35], const uint64_t state[190], uint8_t target, uint8_t *steps, size_t room, uint64_t *figure);
-uint8_t galmuvesh_derivation_check(const uint64_t policy[35], const uint64_t state[190], uint8_t target, const uint8_t *steps, size_t len, uint64_t *figure);
 
 /* A page is 64 KiB at most on any machine that runs this, so that every fence lies on whole pages. */
 enum { PAGE = 65536, BODY = 4 * PAGE, GUARD = 64, POLICY_WORDS = 35 };
