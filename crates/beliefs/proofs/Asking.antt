@@ -1,7 +1,7 @@
 -- "Enable adds Ok(T), whether or not the policy permits the signer (000 and 002; 001 asks the policy first. On every check the verdict is equal)."
 -- A trace is run a second time with an enable that asks the policy first; every answer of the two is equal. Assumes nothing.
 use mathlib.Core.Path.{_≡_, refl, sym, ap, ap₂, _∙_}
-use mathlib.Core.Bool.{Bool, true, false, cond, not, _&&_, _||_}
+use mathlib.Core.Bool.{Bool, true, false, cond, not, _&&_, _||_, and-or-distrib-left}
 use mathlib.Core.List.{List, [], _∷_}
 use Prim.Native.Nat.{ℕ, suc, _+_, _*_}
 use lib.Dec.{eqb, ltb}
@@ -60,16 +60,12 @@ module _ (p : List ℕ) where
   like-refl : (f : Frame) → Alike p f f
   like-refl f = record { same = refl; owns = λ t. refl; inherits = λ t. refl }
 
-  spread : (q x y : Bool) → (q && (x || y)) ≡ ((q && x) || (q && y))
-  spread true x y = refl
-  spread false x y = refl
-
   alike-granted : (t : ℕ) (f g : Frame) (r s : List Frame) → Alike p f g → granted p t (f ∷ r) ≡ granted p t (g ∷ s)
   alike-granted t f g r s h =
       granted-split p t f r
-      ∙ spread (permitted p t (f .principal)) (any (own t) (f .beliefs)) (any (inherited p t) (f .beliefs))
+      ∙ and-or-distrib-left (permitted p t (f .principal)) (any (own t) (f .beliefs)) (any (inherited p t) (f .beliefs))
       ∙ ap₂ (λ (x y : Bool). x || (permitted p t (f .principal) && y)) (h .owns t) (h .inherits t)
-      ∙ sym (spread (permitted p t (f .principal)) (any (own t) (g .beliefs)) (any (inherited p t) (g .beliefs)))
+      ∙ sym (and-or-distrib-left (permitted p t (f .principal)) (any (own t) (g .beliefs)) (any (inherited p t) (g .beliefs)))
       ∙ ap (λ (x : Principal). permitted p t x && (any (own t) (g .beliefs) || any (inherited p t) (g .beliefs))) (h .same)
       ∙ sym (granted-split p t g s)
 

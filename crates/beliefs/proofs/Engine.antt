@@ -1,22 +1,26 @@
 -- For every engine: what is exactly given serves the belief sets, and each way out of an engine's `operate` keeps its promise. Assumes nothing.
-use mathlib.Core.Path.{_≡_, refl, sym, _∙_}
+use mathlib.Core.Path.{_≡_, refl, sym, ap, ap₂, _∙_}
 use mathlib.Core.Logic.{_≢_}
 use mathlib.Core.Bool.{Bool, true, false, cond}
-use mathlib.Core.List.{List}
-use Prim.Native.Nat.{ℕ, _+_}
-use lib.Dec.{eqb}
-use borrow.Author.Tests.{ne-eqb}
+use mathlib.Core.List.{List, [], _∷_, map}
+use Prim.Native.Nat.{ℕ, suc, _+_, _<_}
+use native.Mathlib.Omega.{arith}
+use lib.Dec.{eqb, ltb}
+use lib.ListN.{length}
+use borrow.Author.Tests.{eq-eqb, ne-eqb, ltb-true}
 use Rattle.bits.proofs.Laws.{never}
 use Rattle.beliefs.specs.declared.Operation.{Operation}
+use Rattle.beliefs.specs.declared.Operation.the-variants.{Call}
 use Rattle.beliefs.specs.declared.Word.{Word as Held}
 use Rattle.beliefs.specs.declared.Decoded.{Decoded}
 use Rattle.beliefs.specs.declared.Decoded.the-variants.{Word, Refused}
 use Rattle.beliefs.specs.declared.Answer.{Answer}
 use Rattle.beliefs.specs.Policy.{signers, targets, valid}
-use Rattle.beliefs.specs.Stack.{Frame}
+use Rattle.beliefs.specs.Numbers.{noFrame, tooDeep}
+use Rattle.beliefs.specs.Stack.{Frame, called, granted, marked, walk}
 use Rattle.beliefs.specs.Words.{decoded}
-use Rattle.beliefs.specs.Trace.{Outcome, refuse, answerByte}
-use Rattle.beliefs.specs.Engine.{inside, Moved, refuseIn, Gives, Serves, Serve, guarded, Answers, Operate}
+use Rattle.beliefs.specs.Trace.{Outcome, refuse, done, byNewest, returned, checked, answerByte, step}
+use Rattle.beliefs.specs.Engine.{inside, Moved, refuseIn, doneIn, verdictByte, verdictIn, framedIn, deeperIn, Gives, Serves, Serve, guarded, Answers, Operate}
 use Rattle.beliefs.proofs.Words.{decoded-fair}
 
 -- what an engine's own definition gives mirrors what the definition's step gives, over what its state pictures
@@ -26,16 +30,60 @@ module _ (Pictures : List ℕ → List Frame → Type 0) (counts : Bool) where
     pub byte : m .byte ≡ answerByte counts o
     pub pictures : Pictures (m .state) (o .stack)
 
-  pub refused-mirrors : (n : ℕ) (s : List ℕ) (st : List Frame) → Pictures s st → Mirrors (refuseIn n s) (refuse n st)
-  refused-mirrors n s st h = record { number = refl; byte = go counts; pictures = h }
-    where
-      go : (c : Bool) → _≡_ {A = ℕ} 0 (0 + cond c 0 0)
-      go true = refl
-      go false = refl
+  -- neither a refusal nor an operation that is not a check has a kind or a count
+  plain : (c : Bool) → _≡_ {A = ℕ} 0 (0 + cond c 0 0)
+  plain true = refl
+  plain false = refl
+
+  refused-mirrors : (n : ℕ) (s : List ℕ) (st : List Frame) → Pictures s st → Mirrors (refuseIn n s) (refuse n st)
+  refused-mirrors n s st h = record { number = refl; byte = plain counts; pictures = h }
+
+  done-mirrors : (left : List ℕ) (st : List Frame) → Pictures left st → Mirrors (doneIn left) (done st)
+  done-mirrors left st h = record { number = refl; byte = plain counts; pictures = h }
+
+  -- each operation, of an engine whose depth is the stack's: by what it does to a state that pictures a stack
+  module _ (s : List ℕ) (depth : ℕ) (high : (st : List Frame) → Pictures s st → depth ≡ length st) where
+    -- 7
+    no-frame : (m : Moved) → Pictures s [] → Mirrors (framedIn depth m s) (refuse noFrame [])
+    no-frame m h = rw (eq-eqb depth 0 (high [] h)) (refused-mirrors noFrame s [] h)
+
+    a-frame : (m : Moved) (o : Outcome) (f : Frame) (r : List Frame) → Pictures s (f ∷ r) → Mirrors m o → Mirrors (framedIn depth m s) o
+    a-frame m o f r h k = let e : depth ≡ suc (length r) = high (f ∷ r) h in rw (ne-eqb depth 0 (omega arith)) k
+
+    -- 8
+    pub call-mirrors : (p : List ℕ) (g : ℕ) (more : List ℕ) → ((st : List Frame) → Pictures s st → length st < 63 → Pictures more (called p g st ∷ st))
+        → (st : List Frame) → Pictures s st → Mirrors (deeperIn depth more s) (step p (Call g) st)
+    unfolding step
+    call-mirrors p g more k st h = rw (high st h) (go (ltb (length st) 63) refl)
+      where
+        go : (e : Bool) → ltb (length st) 63 ≡ e → Mirrors (cond e (doneIn more) (refuseIn tooDeep s)) (cond e (done (called p g st ∷ st)) (refuse tooDeep st))
+        go true q = done-mirrors more (called p g st ∷ st) (k st h (ltb-true _ _ q))
+        go false q = refused-mirrors tooDeep s st h
+
+    pub return-mirrors : (left : List ℕ) → ((f : Frame) (r : List Frame) → Pictures s (f ∷ r) → Pictures left r)
+        → (st : List Frame) → Pictures s st → Mirrors (framedIn depth (doneIn left) s) (returned st)
+    return-mirrors left k [] h = no-frame (doneIn left) h
+    return-mirrors left k (f ∷ r) h = a-frame (doneIn left) (done r) f r h (done-mirrors left r (k f r h))
+
+    pub newest-mirrors : (left : List ℕ) (g : Frame → Frame) → ((f : Frame) (r : List Frame) → Pictures s (f ∷ r) → Pictures left (g f ∷ r))
+        → (st : List Frame) → Pictures s st → Mirrors (framedIn depth (doneIn left) s) (byNewest g st)
+    newest-mirrors left g k [] h = no-frame (doneIn left) h
+    newest-mirrors left g k (f ∷ r) h = a-frame (doneIn left) (done (g f ∷ r)) f r h (done-mirrors left (g f ∷ r) (k f r h))
+
+    pub check-mirrors : (p : List ℕ) (t : ℕ) (v : Bool) (looked : ℕ)
+        → ((f : Frame) (r : List Frame) → Pictures s (f ∷ r) → (v ≡ granted p t (f ∷ r)) × (looked ≡ cond counts (walk p t (map marked (f ∷ r)) .looked) 0))
+        → (st : List Frame) → Pictures s st → Mirrors (framedIn depth (verdictIn v looked s) s) (checked p t st)
+    check-mirrors p t v looked k [] h = no-frame (verdictIn v looked s) h
+    check-mirrors p t v looked k (f ∷ r) h =
+        a-frame (verdictIn v looked s) (checked p t (f ∷ r)) f r h (record { number = refl; byte = ap₂ verdictByte (k f r h .0) (k f r h .1); pictures = h })
 
   -- so what is exactly given serves the belief sets
   pub serves-by : (r : Answer) (left : List ℕ) (m : Moved) (o : Outcome) → Gives r left m → Mirrors m o → Serves Pictures counts r left o
   serves-by r left m o g h = record { number = g .number ∙ h .number; byte = g .byte ∙ h .byte; pictures = rw (g .state) (h .pictures) }
+
+-- an answer with its number and byte, and the words left, are what an engine's own definition gives
+pub gives : {r : Answer} {left : List ℕ} {m : Moved} → r ≡ record { number = m .number; byte = m .byte } → left ≡ m .state → Gives r left m
+gives a e = record { number = ap (λ (x : Answer). x .number) a; byte = ap (λ (x : Answer). x .byte) a; state = e }
 
 -- each way out of an engine's `operate`
 module _ (Pictures : List ℕ → List Frame → Type 0) (counts fits : Bool) (act : Operation → Moved) (p s : List ℕ) (w lent : ℕ) where

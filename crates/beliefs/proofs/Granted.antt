@@ -40,7 +40,6 @@ pub granted-split : (p : List ℕ) (t : ℕ) (f : Frame) (r : List Frame)
 unfolding granted
 granted-split p t f r = split p t (permitted p t (f .principal)) (f .beliefs)
 
--- a belief on t that is not on u, where u is not t
 pub eqb-comm : (a b : ℕ) → eqb a b ≡ eqb b a
 eqb-comm a b = go (eqb b a) refl
   where
@@ -48,21 +47,25 @@ eqb-comm a b = go (eqb b a) refl
     go true q = eq-eqb a b (sym (eqb-true b a q))
     go false q = ne-eqb a b (λ h. eqb-false b a q (sym h))
 
-off : (g u t : ℕ) (x : Bool) → (not (eqb g u) && (eqb g t && x)) ≡ (not (eqb u t) && (eqb g t && x))
-off g u t x = go (eqb g t) refl
+-- a test d of the target, asked of beliefs that are on t, is asked of t
+at-target : (d : ℕ → Bool) (g t : ℕ) (x : Bool) → (not (d g) && (eqb g t && x)) ≡ (not (d t) && (eqb g t && x))
+at-target d g t x = go (eqb g t) refl
   where
-    go : (e : Bool) → eqb g t ≡ e → (not (eqb g u) && (e && x)) ≡ (not (eqb u t) && (e && x))
-    go true q = ap (λ (y : Bool). not y && x) (ap (λ (y : ℕ). eqb y u) (eqb-true g t q) ∙ eqb-comm t u)
-    go false q = and-false (not (eqb g u)) ∙ sym (and-false (not (eqb u t)))
+    go : (e : Bool) → eqb g t ≡ e → (not (d g) && (e && x)) ≡ (not (d t) && (e && x))
+    go true q = ap (λ (y : ℕ). not (d y) && x) (eqb-true g t q)
+    go false q = and-false (not (d g)) ∙ sym (and-false (not (d t)))
+
+pub any-not : (d : ℕ → Bool) (t : ℕ) (x : Belief → Bool) (bs : List Belief) → any (λ b. on t b && x b) (keep (λ b. not (d (b .target))) bs) ≡ (not (d t) && any (λ b. on t b && x b) bs)
+any-not d t x bs =
+    any-keep (λ b. on t b && x b) (λ b. not (d (b .target))) bs
+    ∙ any-ext (λ b. not (d (b .target)) && (on t b && x b)) (λ b. not (d t) && (on t b && x b)) (λ b. at-target d (b .target) t (x b)) bs
+    ∙ any-and (not (d t)) (λ b. on t b && x b) bs
 
 pub any-off : (u t : ℕ) (x : Belief → Bool) (bs : List Belief) → any (λ b. on t b && x b) (keep (λ b. not (on u b)) bs) ≡ (not (eqb u t) && any (λ b. on t b && x b) bs)
-any-off u t x bs =
-    any-keep (λ b. on t b && x b) (λ b. not (on u b)) bs
-    ∙ any-ext (λ b. not (on u b) && (on t b && x b)) (λ b. not (eqb u t) && (on t b && x b)) (λ b. off (b .target) u t (x b)) bs
-    ∙ any-and (not (eqb u t)) (λ b. on t b && x b) bs
+any-off u t x bs = rw (eqb-comm u t) (any-not (λ g. eqb g u) t x bs)
 
 own-off : (g u t : ℕ) (n : Bool) → (not (eqb g u && n) && (eqb g t && n)) ≡ (not (eqb u t) && (eqb g t && n))
-own-off g u t true = ap (λ (x : Bool). not x && (eqb g t && true)) (and-true (eqb g u)) ∙ off g u t true
+own-off g u t true = ap (λ (x : Bool). not x && (eqb g t && true)) (and-true (eqb g u)) ∙ at-target (λ n. eqb n u) g t true ∙ ap (λ (x : Bool). not x && (eqb g t && true)) (eqb-comm t u)
 own-off g u t false =
     ap (λ (x : Bool). not (eqb g u && false) && x) (and-false (eqb g t)) ∙ and-false (not (eqb g u && false))
     ∙ sym (ap (λ (x : Bool). not (eqb u t) && x) (and-false (eqb g t)) ∙ and-false (not (eqb u t)))

@@ -2,6 +2,7 @@ pub mod Unique
 pub mod Lists
 pub mod Policy
 pub mod Granted
+pub mod Refusals
 pub mod Words
 pub mod Engine
 pub mod Chosen

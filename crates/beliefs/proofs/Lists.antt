@@ -9,8 +9,8 @@ use native.Mathlib.Omega.{arith}
 use lib.Dec.{eqb}
 use borrow.Author.Tests.{eqb-true, eqb-false}
 use native.Mathlib.Nat.{add-zero, add-suc}
-use lib.ListN.{length, getD, set, take, drop, length-drop}
-use lib.Seq.{sets, getD-take, getD-drop, length-take-le}
+use lib.ListN.{length, getD, set, take, drop, replicate, length-drop, drop-of-length-le}
+use lib.Seq.{sets, drop-cons, getD-take, getD-drop, length-take-le}
 use Rattle.bits.specs.Bit.{below, allBelow}
 use Rattle.beliefs.specs.Lists.{any, all, keep, each}
 
@@ -123,7 +123,23 @@ part-below l at k n h =
     (each-ext (λ i. below (getD part i 0) n) (λ i. below (getD l (at + i) 0) n) k
     (λ i m. ap (λ (w : ℕ). below w n) (getD-take k (drop at l) i 0 m ∙ getD-drop at l i 0)))
 
--- stores into a lent buffer, one run after the other
+-- zeros are what `getD` finds past a list's end
+pub zeros : (n i : ℕ) → getD {A = ℕ} (replicate n 0) i 0 ≡ 0
+zeros zero i = refl
+zeros (suc n) zero = refl
+zeros (suc n) (suc i) = zeros n i
+
+-- a loop of stores into a lent buffer: one of them, and the rest after it; of a text, from its first to its last, and after that
+pub put-next : (l : List ℕ) (at i v : ℕ) (vs ws : List ℕ) → ws ≡ v ∷ vs → sets (set l (at + i) v) (at + (i + 1)) vs ≡ sets l (at + i) ws
+put-next l at i v vs ws e = let up : at + (i + 1) ≡ suc (at + i) = omega arith in rw (e, up)
+
+pub put-turn : (l text : List ℕ) (at i : ℕ) → i < length text → sets (set l (at + i) (getD text i 0)) (at + (i + 1)) (drop (i + 1) text) ≡ sets l (at + i) (drop i text)
+put-turn l text at i h = put-next l at i (getD text i 0) (drop (i + 1) text) (drop i text) (rw add-one (drop-cons text i 0 h))
+
+pub put-end : (l text : List ℕ) (at i : ℕ) → length text ≤ i → sets l (at + i) (drop i text) ≡ l
+put-end l text at i h = rw (drop-of-length-le text {i = i} h)
+
+-- one run of stores after the other
 pub sets-more : (l : List ℕ) (i : ℕ) (vs ws : List ℕ) → sets (sets l i vs) (i + length vs) ws ≡ sets l i (vs ++ ws)
 sets-more l i [] ws = rw (add-zero i)
 sets-more l i (v ∷ vs) ws = let e : i + suc (length vs) ≡ suc i + length vs = omega arith in rw e (sets-more (set l i v) (suc i) vs ws)

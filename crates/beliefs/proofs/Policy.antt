@@ -5,9 +5,9 @@ use mathlib.Core.List.{List}
 use Prim.Native.Nat.{ℕ, _≤_, _<_}
 use native.Mathlib.Decide.{decLt}
 use native.Mathlib.Omega.{arith}
-use lib.Dec.{leb}
+use lib.Dec.{ltb, leb}
 use lib.ListN.{length, List·getD-eq-default}
-use borrow.Author.Tests.{leb-true, le-leb, lt-ltb, le-ltb, eqb-true}
+use borrow.Author.Tests.{leb-true, le-leb, ltb-true, lt-ltb, le-ltb, eqb-true}
 use Rattle.bits.specs.Bit.{below}
 use Rattle.beliefs.specs.Lists.{each}
 use Rattle.beliefs.specs.Policy.{start, signers, targets, row, within, rowFits, valid}
@@ -44,6 +44,10 @@ ranges p h =
       targets-most = t .1;
       rows-fit = c .1;
     }
+
+-- a target of the policy has a bit in a word
+pub in-word : (p : List ℕ) → Ranges p → (t : ℕ) → ltb t (targets p) ≡ true → t < 64
+in-word p r t h = omega (arith, ltb-true t (targets p) h, r .targets-most)
 
 pub ranges-valid : (p : List ℕ) → Ranges p → valid p ≡ true
 unfolding valid

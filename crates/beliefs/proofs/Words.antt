@@ -13,25 +13,22 @@ use Rattle.beliefs.specs.declared.Decoded.the-variants.{Word, Refused}
 use Rattle.beliefs.specs.Policy.{signers, targets}
 use Rattle.beliefs.specs.Words.{wordOperation, wordSigner, wordTarget, operationOf, strayIn, outsideOf, decoded}
 use Rattle.beliefs.specs.Engine.{inside}
+use Rattle.beliefs.proofs.Refusals.{met}
 
 abbrev pub Fair : List ℕ → Decoded → Type 0
 Fair p (Word x) = inside p (x .op) ≡ true
 Fair p (Refused n) = n ≢ 0
 
 module _ (p : List ℕ) where
-  passes : (b : Bool) (n : ℕ) → n ≢ 0 → cond b 0 n ≡ 0 → b ≡ true
-  passes true n h e = refl
-  passes false n h e = absurd (h e)
-
   -- a word whose signer or target is not outside, by its operation number
   by-number : (b0 b1 b2 b3 b4 : Bool) (g t : ℕ) → _≡_ {A = ℕ} (cond b0 (cond (ltb g (signers p)) 0 5) (cond b1 0 (cond (ltb t (targets p)) 0 6))) 0
       → inside p (cond b0 (Call g) (cond b1 Return (cond b2 (Enable t) (cond b3 (Disable t) (cond b4 (Revert t) (Check t)))))) ≡ true
-  by-number true b1 b2 b3 b4 g t e = passes _ 5 (omega arith) e
+  by-number true b1 b2 b3 b4 g t e = met _ 4 0 e .0
   by-number false true b2 b3 b4 g t e = refl
-  by-number false false true b3 b4 g t e = passes _ 6 (omega arith) e
-  by-number false false false true b4 g t e = passes _ 6 (omega arith) e
-  by-number false false false false true g t e = passes _ 6 (omega arith) e
-  by-number false false false false false g t e = passes _ 6 (omega arith) e
+  by-number false false true b3 b4 g t e = met _ 5 0 e .0
+  by-number false false false true b4 g t e = met _ 5 0 e .0
+  by-number false false false false true g t e = met _ 5 0 e .0
+  by-number false false false false false g t e = met _ 5 0 e .0
 
   not-outside : (w : ℕ) → outsideOf (signers p) (targets p) w ≡ 0 → inside p (operationOf w) ≡ true
   unfolding outsideOf operationOf

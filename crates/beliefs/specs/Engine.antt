@@ -2,7 +2,7 @@
 use mathlib.Core.Path.{_≡_}
 use mathlib.Core.Bool.{Bool, true, cond, not, _&&_}
 use mathlib.Core.List.{List}
-use Prim.Native.Nat.{ℕ}
+use Prim.Native.Nat.{ℕ, _+_, _*_}
 use lib.Dec.{eqb, ltb}
 use Rattle.beliefs.specs.declared.Operation.{Operation}
 use Rattle.beliefs.specs.declared.Operation.the-variants.{Call, Return, Enable, Disable, Revert, Check}
@@ -10,11 +10,11 @@ use Rattle.beliefs.specs.declared.Decoded.{Decoded}
 use Rattle.beliefs.specs.declared.Decoded.the-variants.{Word, Refused}
 use Rattle.beliefs.specs.declared.Answer.{Answer}
 use Rattle.beliefs.specs.Lists.{all, empty}
-use Rattle.beliefs.specs.Numbers.{badPolicy, badState}
+use Rattle.beliefs.specs.Numbers.{noFrame, tooDeep, badPolicy, badState}
 use Rattle.beliefs.specs.Policy.{signers, targets, valid}
 use Rattle.beliefs.specs.Stack.{Belief, Frame, on, permitted}
 use Rattle.beliefs.specs.Words.{decoded}
-use Rattle.beliefs.specs.Trace.{Outcome, answerByte, step, served}
+use Rattle.beliefs.specs.Trace.{Outcome, kindOf, answerByte, step, served}
 
 -- an operation of the policy's signers and targets
 abbrev pub inside : List ℕ → Operation → Bool
@@ -40,6 +40,20 @@ refuseIn n s = record { number = n; byte = 0; state = s }
 
 abbrev pub doneIn : List ℕ → Moved
 doneIn s = record { number = 0; byte = 0; state = s }
+
+-- a check changes nothing: its answer byte is the verdict's kind and the frames looked at
+abbrev pub verdictByte : Bool → ℕ → ℕ
+verdictByte v looked = kindOf v * 64 + looked
+
+abbrev pub verdictIn : Bool → ℕ → List ℕ → Moved
+verdictIn v looked s = record { number = 0; byte = verdictByte v looked; state = s }
+
+-- 7 at depth 0, else what the newest frame does; 8 at depth 63, else the state with a frame more
+abbrev pub framedIn : ℕ → Moved → List ℕ → Moved
+framedIn depth m s = cond (eqb depth 0) (refuseIn noFrame s) m
+
+abbrev pub deeperIn : ℕ → List ℕ → List ℕ → Moved
+deeperIn depth more s = cond (ltb depth 63) (doneIn more) (refuseIn tooDeep s)
 
 pub record Gives (r : Answer) (left : List ℕ) (m : Moved) : Type 0 where
   pub number : r .number ≡ m .number

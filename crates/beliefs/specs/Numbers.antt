@@ -5,7 +5,7 @@ use Prim.Native.Nat.{ℕ}
 abbrev pub tooFew : ℕ
 tooFew = 1
 
--- policy bytes left over
+-- policy bytes left over; program input over 65,536
 abbrev pub leftOver : ℕ
 leftOver = 2
 

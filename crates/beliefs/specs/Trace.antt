@@ -38,12 +38,16 @@ abbrev pub returned : List Frame → Outcome
 returned [] = refuse noFrame []
 returned (f ∷ r) = done r
 
+-- a verdict's kind
+abbrev pub kindOf : Bool → ℕ
+kindOf v = cond v 1 2
+
 -- the verdict is the belief sets', the count the walk's
 abbrev pub checked : List ℕ → ℕ → List Frame → Outcome
 checked p t [] = refuse noFrame []
 checked p t (f ∷ r) = record {
   number = 0;
-  kind = cond (granted p t (f ∷ r)) 1 2;
+  kind = kindOf (granted p t (f ∷ r));
   looked = walk p t (map marked (f ∷ r)) .looked;
   stack = f ∷ r;
 }

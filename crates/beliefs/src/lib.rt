@@ -1,7 +1,9 @@
 // Document 01 as code sees it: operations, words and refusals by name. What they mean stands in specs/.
 ghost use mathlib.Core.Path.{_≡_};
 ghost use mathlib.Core.Bool.{cond};
+ghost use Prim.Native.Nat.{_%_};
 ghost use Rattle.beliefs.specs.Words.{operationOf, strayIn, outsideOf, decoded, numberOf};
+ghost use Rattle.beliefs.specs.Engine.{verdictByte};
 
 // Numbers for no.
 pub const ACCEPTED: u8 = 0;
@@ -33,6 +35,9 @@ pub const FORBIDDEN: u8 = 12;
 pub const BAD_POLICY: u8 = 13;
 
 pub const BAD_STATE: u8 = 14;
+
+// The most frames that a stack has.
+pub const DEPTH_MOST: u64 = 63;
 
 // One operation, with the signer or the target that it uses.
 pub enum Operation {
@@ -79,6 +84,44 @@ pub struct Answer {
 pub struct Report {
     pub number: u8,
     pub figure: u64,
+}
+
+impl Answer {
+    // Refused by a number.
+    pub fn refused(number: u8) -> Self
+        ensures { λ r. ⌜ r ≡ record { number = number; byte = 0 } ⌝ }
+    {
+        Answer { number, byte: 0 }
+    }
+
+    // Accepted, with the answer byte of an operation that is not a check.
+    pub fn done() -> Self
+        ensures { λ r. ⌜ r ≡ record { number = 0; byte = 0 } ⌝ }
+    {
+        Answer {
+            number: ACCEPTED,
+            byte: 0,
+        }
+    }
+
+    // Accepted, with the answer byte of a check.
+    pub fn verdict(granted: bool, looked: u64) -> Self
+        ensures { λ r. ⌜ r ≡ record { number = 0; byte = verdictByte granted (looked % 64) } ⌝ }
+    {
+        let byte = verdict_byte(granted, looked);
+        Answer {
+            number: ACCEPTED,
+            byte,
+        }
+    }
+}
+
+// The answer byte of a check: its kind, and the frames looked at in six bits.
+pub fn verdict_byte(granted: bool, looked: u64) -> u8
+    ensures { λ r. ⌜ r ≡ verdictByte granted (looked % 64) ⌝ }
+{
+    let count = (looked % 64) as u8;
+    if granted { 64 + count } else { 128 + count }
 }
 
 // The operation of a word. Where its number is 6 or 7, which no caller asks, it is check.

@@ -21,7 +21,7 @@ use Rattle.beliefs.specs.Stack.{full, startMarks}
 use Rattle.passed.specs.declared.Passed.{Passed}
 use Rattle.passed.specs.declared.Next.{Next}
 use Rattle.passed.specs.declared.Next.the-variants.{Stay, Down, Up, Refused}
-use Rattle.passed.specs.State.{fresh, grantedOf, callOf, unless, barredOf, ledTo, nextOf, passedFits, outsideOf, refusalOf, operateOf}
+use Rattle.passed.specs.State.{fresh, grantedOf, callOf, unless, barredOf, ledTo, passedFits, outsideOf, refusalOf, operateOf}
 use Rattle.beliefs.proofs.Policy.{ranges}
 use Rattle.passed.proofs.Fits.{Framed, fits-framed, framed-fits}
 

@@ -2,13 +2,15 @@
 use mathlib.Core.Path.{_≡_, refl, sym, ap, ap₂, _∙_}
 use mathlib.Core.Logic.{_≢_}
 use mathlib.Core.List.{List, _∷_}
-use Prim.Native.Nat.{ℕ, zero, suc, _+_, _*_, _≤_, _<_}
+use Prim.Native.Nat.{ℕ, zero, suc, _+_, _*_, _%_, _≤_, _<_}
 use native.Mathlib.Omega.{arith}
 use lib.ListN.{getD, set, length, length-set, List·getD-eq-default}
 use lib.Seq.{getD-set-same, getD-set-other, set-out}
 use Rattle.beliefs.specs.declared.Marked.{Marked}
-use Rattle.beliefs.specs.Stack.{nobody}
-use Rattle.walk.specs.State.{frameAt, framesAt, put}
+use Rattle.beliefs.specs.declared.Seen.{Seen}
+use Rattle.beliefs.specs.Stack.{nobody, walk}
+use Rattle.beliefs.proofs.Counts.{looked-le}
+use Rattle.walk.specs.State.{depth, frameAt, framesAt, frames, put}
 
 -- a frame by its three words
 same-frame : (s : List ℕ) (j : ℕ) (m : Marked) → getD s (3 * j + 1) 0 ≡ m .signer → getD s (3 * j + 2) 0 ≡ m .enabled → getD s (3 * j + 3) 0 ≡ m .disabled → frameAt s j ≡ m
@@ -77,3 +79,7 @@ framesAt-same s s′ (suc k) h = ap₂ (λ (m : Marked) (ms : List Marked). m �
 pub framesAt-length : (s : List ℕ) (k : ℕ) → length (framesAt s k) ≡ k
 framesAt-length s zero = refl
 framesAt-length s (suc k) = ap suc (framesAt-length s k)
+
+-- six bits hold the frames that a walk looks at
+pub six-bits : (p s : List ℕ) (t : ℕ) (v : Seen) → v ≡ walk p t (frames s) → v .looked % 64 ≡ v .looked
+six-bits p s t v e = omega (arith, ap (λ (x : Seen). x .looked) e, looked-le p t (frames s), framesAt-length s (depth s))

@@ -10,14 +10,15 @@ use lib.Seq.{getD-set-same}
 use borrow.Author.Tests.{eq-eqb, ne-eqb, ltb-true}
 use Rattle.beliefs.specs.declared.Answer.{Answer}
 use Rattle.beliefs.specs.declared.Marked.{Marked}
+use Rattle.beliefs.specs.declared.Seen.{Seen}
 use Rattle.beliefs.specs.declared.Operation.{Operation}
 use Rattle.beliefs.specs.declared.Operation.the-variants.{Call, Return, Enable, Disable, Revert, Check}
 use Rattle.beliefs.specs.Policy.{targets}
 use Rattle.beliefs.specs.Stack.{Frame, nobody, marked, granted, walk, called, enable, disable, revert}
 use Rattle.beliefs.specs.Trace.{Outcome, refuse, done, byNewest, checked, step}
 use Rattle.beliefs.specs.Engine.{inside, Moved, refuseIn, doneIn, Gives, Serve}
-use Rattle.beliefs.proofs.Engine.{Mirrors, refused-mirrors, serves-by}
-use Rattle.beliefs.proofs.Policy.{Ranges, ranges}
+use Rattle.beliefs.proofs.Engine.{Mirrors, call-mirrors, return-mirrors, newest-mirrors, check-mirrors, serves-by}
+use Rattle.beliefs.proofs.Policy.{Ranges, ranges, in-word}
 use Rattle.walk.specs.State.{depth, frameAt, framesAt, frames, put, remarked, markIn, newFrame, callIn, returnIn, checkIn, stepIn}
 use Rattle.walk.specs.Coherent.{Sound, Pictures}
 use Rattle.walk.proofs.Frames.{length-put, put-frame, put-others, put-depth, set-depth, framesAt-same}
@@ -115,44 +116,14 @@ module _ (p s : List ℕ) (long : length s ≡ 190) (ok : Ranges p) where
   seen : (t : ℕ) (st : List Frame) → Pictures p s st → walk p t (frames s) ≡ record { granted = granted p t st; looked = walk p t (map marked st) .looked }
   seen t st h = ap (walk p t) (h .same) ∙ λ i. record { granted = sym (agree p t st (h .coherent)) i; looked = walk p t (map marked st) .looked }
 
-  refused : (n : ℕ) (st : List Frame) → Pictures p s st → Mirrors (Pictures p) true (refuseIn n s) (refuse n st)
-  refused n st h = refused-mirrors (Pictures p) true n s st h
-
-  -- no frame: 7
-  none : (a : Moved) → Pictures p s [] → Mirrors (Pictures p) true (cond (eqb (depth s) 0) (refuseIn 7 s) a) (refuse 7 [])
-  none a h = rw (eq-eqb (depth s) 0 (high p s [] h)) (refused 7 [] h)
-
-  some : (a : Moved) (f : Frame) (r : List Frame) (o : Outcome) → Pictures p s (f ∷ r) → Mirrors (Pictures p) true a o → Mirrors (Pictures p) true (cond (eqb (depth s) 0) (refuseIn 7 s) a) o
-  some a f r o h k = let e : depth s ≡ suc (length r) = high p s (f ∷ r) h in rw (ne-eqb (depth s) 0 (omega arith)) k
-
-  marks : (op : Operation) (g : Frame → Frame) → ((f : Frame) → remarked op (marked f) ≡ marked (g f)) → ((f : Frame) (r : List Frame) → Sound p f r → Sound p (g f) r)
-      → (st : List Frame) → Pictures p s st → Mirrors (Pictures p) true (markIn op s) (byNewest g st)
-  unfolding markIn
-  marks op g e k [] h = none _ h
-  marks op g e k (f ∷ r) h = some _ f r (done (g f ∷ r)) h (record { number = refl; byte = refl; pictures = mark-kept op f (g f) r (e f) (k f r (h .coherent .0)) h })
-
-  called-in : (g : ℕ) (st : List Frame) (e : Bool) → ltb (length st) 63 ≡ e → Pictures p s st
-      → Mirrors (Pictures p) true (cond e (doneIn (set (put s (depth s) (newFrame p g (depth s))) 0 (depth s + 1))) (refuseIn 8 s)) (cond e (done (called p g st ∷ st)) (refuse 8 st))
-  called-in g st true q h = record { number = refl; byte = refl; pictures = call-kept g st h (ltb-true _ _ q) }
-  called-in g st false q h = refused 8 st h
-
-  few : (t : ℕ) → ltb t (targets p) ≡ true → t < 64
-  few t h = omega (arith, ltb-true t (targets p) h, ok .targets-most)
-
   pub simulate : (op : Operation) → inside p op ≡ true → (st : List Frame) → Pictures p s st → Mirrors (Pictures p) true (stepIn p s op) (step p op st)
-  unfolding step callIn returnIn checkIn enable disable revert
-  simulate (Call g) i st h = rw (ap (λ (n : ℕ). ltb n 63) (high p s st h)) (called-in g st (ltb (length st) 63) refl h)
-  simulate Return i [] h = none _ h
-  simulate Return i (f ∷ r) h = some _ f r (done r) h (record { number = refl; byte = refl; pictures = return-kept f r h })
-  simulate (Enable t) i st h = marks (Enable t) (enable t) (λ f. refl) (λ f r k. enable-sound p t f r k (few t i)) st h
-  simulate (Disable t) i st h = marks (Disable t) (disable t) (λ f. refl) (λ f r k. disable-sound p t f r k (few t i)) st h
-  simulate (Revert t) i st h = marks (Revert t) (revert t) (λ f. refl) (λ f r k. revert-sound p t f r k) st h
-  simulate (Check t) i [] h = none _ h
-  simulate (Check t) i (f ∷ r) h = some _ f r (checked p t (f ∷ r)) h (rw (seen t (f ∷ r) h) (record { number = refl; byte = verdict (granted p t (f ∷ r)); pictures = h }))
-    where
-      verdict : (e : Bool) → cond e 64 128 + walk p t (map marked (f ∷ r)) .looked ≡ cond e 1 2 * 64 + walk p t (map marked (f ∷ r)) .looked
-      verdict true = refl
-      verdict false = refl
+  unfolding step markIn callIn returnIn checkIn enable disable revert
+  simulate (Call g) i st h = call-mirrors (Pictures p) true s (depth s) (high p s) p g _ (call-kept g) st h
+  simulate Return i st h = return-mirrors (Pictures p) true s (depth s) (high p s) _ return-kept st h
+  simulate (Enable t) i st h = newest-mirrors (Pictures p) true s (depth s) (high p s) _ (enable t) (λ f r k. mark-kept (Enable t) f (enable t f) r refl (enable-sound p t f r (k .coherent .0) (in-word p ok t i)) k) st h
+  simulate (Disable t) i st h = newest-mirrors (Pictures p) true s (depth s) (high p s) _ (disable t) (λ f r k. mark-kept (Disable t) f (disable t f) r refl (disable-sound p t f r (k .coherent .0) (in-word p ok t i)) k) st h
+  simulate (Revert t) i st h = newest-mirrors (Pictures p) true s (depth s) (high p s) _ (revert t) (λ f r k. mark-kept (Revert t) f (revert t f) r refl (revert-sound p t f r (k .coherent .0)) k) st h
+  simulate (Check t) i st h = check-mirrors (Pictures p) true s (depth s) (high p s) p t _ _ (λ f r k. (ap (λ (v : Seen). v .granted) (seen t (f ∷ r) k), ap (λ (v : Seen). v .looked) (seen t (f ∷ r) k))) st h
 
 -- what is exactly given serves the belief sets
 pub served : (p s : List ℕ) → length s ≡ 190 → (op : Operation) (r : Answer) (left : List ℕ) → Gives r left (stepIn p s op) → Serve (Pictures p) true p s op r left (stepIn p s op)

@@ -6,14 +6,12 @@ use lib.Dec.{eqb, ltb, leb}
 use lib.ListN.{getD, set}
 use Rattle.bits.specs.Bit.{withBit, withoutBit, below}
 use Rattle.beliefs.specs.declared.Marked.{Marked}
-use Rattle.beliefs.specs.declared.Seen.{Seen}
 use Rattle.beliefs.specs.declared.Operation.{Operation}
 use Rattle.beliefs.specs.declared.Operation.the-variants.{Call, Return, Enable, Disable, Revert, Check}
 use Rattle.beliefs.specs.Lists.{each}
-use Rattle.beliefs.specs.Numbers.{noFrame, tooDeep}
 use Rattle.beliefs.specs.Policy.{signers, targets}
 use Rattle.beliefs.specs.Stack.{nobody, startMarks, walk}
-use Rattle.beliefs.specs.Engine.{Moved, refuseIn, doneIn}
+use Rattle.beliefs.specs.Engine.{Moved, doneIn, verdictIn, framedIn, deeperIn}
 
 -- the depth; a state that says more than 63 is taken to be full
 abbrev pub depth : List ℕ → ℕ
@@ -56,26 +54,22 @@ remarked (Check t) m = m
 
 -- the newest frame is above depth - 1 others
 unfoldable pub markIn : Operation → List ℕ → Moved
-markIn op s = cond (eqb (depth s) 0) (refuseIn noFrame s) (doneIn (put s (depth s - 1) (remarked op (frameAt s (depth s - 1)))))
+markIn op s = framedIn (depth s) (doneIn (put s (depth s - 1) (remarked op (frameAt s (depth s - 1))))) s
 
 -- a new frame: a bottom frame has the marks of its start
 abbrev pub newFrame : List ℕ → ℕ → ℕ → Marked
 newFrame p g k = record { signer = g; enabled = cond (eqb k 0) (startMarks p) 0; disabled = 0 }
 
 unfoldable pub callIn : List ℕ → ℕ → List ℕ → Moved
-callIn p g s = cond (ltb (depth s) 63) (doneIn (set (put s (depth s) (newFrame p g (depth s))) 0 (depth s + 1))) (refuseIn tooDeep s)
+callIn p g s = deeperIn (depth s) (set (put s (depth s) (newFrame p g (depth s))) 0 (depth s + 1)) s
 
 -- a returned frame leaves zeros
 unfoldable pub returnIn : List ℕ → Moved
-returnIn s = cond (eqb (depth s) 0) (refuseIn noFrame s) (doneIn (set (put s (depth s - 1) nobody) 0 (depth s - 1)))
+returnIn s = framedIn (depth s) (doneIn (set (put s (depth s - 1) nobody) 0 (depth s - 1))) s
 
--- a check changes nothing: its byte is the walk's verdict and count
-abbrev pub seenByte : Seen → ℕ
-seenByte v = cond (v .granted) 64 128 + v .looked
-
+-- a check answers with the walk's verdict and count
 unfoldable pub checkIn : List ℕ → ℕ → List ℕ → Moved
-checkIn p t s =
-    cond (eqb (depth s) 0) (refuseIn noFrame s) (record { number = 0; byte = seenByte (walk p t (frames s)); state = s })
+checkIn p t s = framedIn (depth s) (verdictIn (walk p t (frames s) .granted) (walk p t (frames s) .looked) s) s
 
 abbrev pub stepIn : List ℕ → List ℕ → Operation → Moved
 stepIn p s (Call g) = callIn p g s

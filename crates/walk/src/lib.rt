@@ -17,16 +17,17 @@ use beliefs::Seen;
 pub fn depth(state: &[u64; 190]) -> u64
     ensures { λ r. ⌜ r ≡ depth (now (state .entry)) ⌝ }
 {
-    let d = state[0];
-    if d < 63 { d } else { 63 }
+    let said = state[0];
+    if said < beliefs::DEPTH_MOST { said } else { beliefs::DEPTH_MOST }
 }
 
 // The frame above k others: zeros where there is no room for one.
 pub fn frame_at(state: &[u64; 190], k: u64) -> Marked
     ensures { λ r. ⌜ r ≡ frameAt (now (state .entry)) k ⌝ }
 {
+    // As a slice, so that its length is known.
     let whole: &[u64] = state;
-    if 62 < k {
+    if beliefs::DEPTH_MOST <= k {
         return Marked {
             signer: 0,
             enabled: 0,
@@ -45,8 +46,9 @@ pub fn frame_at(state: &[u64; 190], k: u64) -> Marked
 fn set_frame(state: &mut [u64; 190], k: u64, frame: Marked)
     ensures { λ r. ⌜ now (state .exit) ≡ put (now (state .entry)) k frame ⌝ }
 {
+    // As a slice, so that its length is known.
     let whole: &[u64] = state;
-    if 62 < k {
+    if beliefs::DEPTH_MOST <= k {
         return;
     }
     let at = (3 * k) as usize;
@@ -128,17 +130,11 @@ fn mark(state: &mut [u64; 190], op: Operation) -> Answer
 {
     let d = depth(state);
     if d == 0 {
-        return Answer {
-            number: beliefs::NO_FRAME,
-            byte: 0,
-        };
+        return Answer::refused(beliefs::NO_FRAME);
     }
     let frame = remark(op, frame_at(state, d - 1));
     set_frame(state, d - 1, frame);
-    Answer {
-        number: beliefs::ACCEPTED,
-        byte: 0,
-    }
+    Answer::done()
 }
 
 // The enabled marks of a new frame above d others: those of the start at the bottom, else none.
@@ -160,11 +156,8 @@ fn call(policy: &[u64; 35], state: &mut [u64; 190], signer: u8) -> Answer
     ensures { λ r. ⌜ Gives r (now (state .exit)) (callIn (now (policy .entry)) signer (now (state .entry))) ⌝ }
 {
     let d = depth(state);
-    if 63 <= d {
-        return Answer {
-            number: beliefs::TOO_DEEP,
-            byte: 0,
-        };
+    if beliefs::DEPTH_MOST <= d {
+        return Answer::refused(beliefs::TOO_DEEP);
     }
     let enabled = first_marks(policy, d);
     let frame = Marked {
@@ -174,10 +167,7 @@ fn call(policy: &[u64; 35], state: &mut [u64; 190], signer: u8) -> Answer
     };
     set_frame(state, d, frame);
     state[0] = d + 1;
-    Answer {
-        number: beliefs::ACCEPTED,
-        byte: 0,
-    }
+    Answer::done()
 }
 
 // The newest frame goes, and leaves zeros.
@@ -186,10 +176,7 @@ fn leave(state: &mut [u64; 190]) -> Answer
 {
     let d = depth(state);
     if d == 0 {
-        return Answer {
-            number: beliefs::NO_FRAME,
-            byte: 0,
-        };
+        return Answer::refused(beliefs::NO_FRAME);
     }
     let zeros = Marked {
         signer: 0,
@@ -198,10 +185,7 @@ fn leave(state: &mut [u64; 190]) -> Answer
     };
     set_frame(state, d - 1, zeros);
     state[0] = d - 1;
-    Answer {
-        number: beliefs::ACCEPTED,
-        byte: 0,
-    }
+    Answer::done()
 }
 
 // A check by the newest frame.
@@ -209,30 +193,17 @@ fn ask(policy: &[u64; 35], state: &[u64; 190], target: u8) -> Answer
     ensures { λ r. ⌜ Gives r (now (state .entry)) (checkIn (now (policy .entry)) target (now (state .entry))) ⌝ }
 {
     if depth(state) == 0 {
-        return Answer {
-            number: beliefs::NO_FRAME,
-            byte: 0,
-        };
+        return Answer::refused(beliefs::NO_FRAME);
     }
     let seen = check(policy, state, target);
-    let looked = (seen.looked % 64) as u8;
-    if seen.granted {
-        Answer {
-            number: beliefs::ACCEPTED,
-            byte: 64 + looked,
-        }
-    } else {
-        Answer {
-            number: beliefs::ACCEPTED,
-            byte: 128 + looked,
-        }
-    }
+    Answer::verdict(seen.granted, seen.looked)
 }
 
 // One operation that the caller has decoded.
 pub fn serve(policy: &[u64; 35], state: &mut [u64; 190], op: Operation) -> Answer
     ensures { λ r. ⌜ Serve (Pictures (now (policy .entry))) true (now (policy .entry)) (now (state .entry)) op r (now (state .exit)) (stepIn (now (policy .entry)) (now (state .entry)) op) ⌝ }
 {
+    // As a slice, so that its length is known.
     let whole: &[u64] = state;
     match op {
         Operation::Call(s) => call(policy, state, s),
@@ -268,8 +239,9 @@ fn frames_fit(policy: &[u64; 35], state: &[u64; 190]) -> bool
 pub fn valid(policy: &[u64; 35], state: &[u64; 190]) -> bool
     ensures { λ r. ⌜ r ≡ fits (now (policy .entry)) (now (state .entry)) ⌝ }
 {
+    // As a slice, so that its length is known.
     let whole: &[u64] = state;
-    if 63 < state[0] {
+    if beliefs::DEPTH_MOST < state[0] {
         return false;
     }
     if !frames_fit(policy, state) {

@@ -1,6 +1,5 @@
 -- Where the other is one bit alone, the law of a bit says which.
 use mathlib.Core.Path.{refl, ap, _∙_}
-use mathlib.Core.Bool.{Bool}
 use Prim.Native.Nat.{ℕ}
 use Rattle.bits.specs.Bit.{meet}
 use Rattle.bits.proofs.Laws.{meet-alone}

@@ -10,7 +10,6 @@ use Rattle.derivation.specs.Promise.{barred}
 use Rattle.derivation.proofs.Judged.{empty-frames}
 use Rattle.derivation.proofs.barred.Statement.{statement}
 use Rattle.derivation.proofs.barred.Tie as tie
-use Rattle.walk.proofs.valid.Reads as valid-reads′
 
 -- what each guard that was passed says
 policy-valid : (c : tie.Else1) → valid (c .before .before .args .policy .now) ≡ true

@@ -10,7 +10,6 @@ use Rattle.beliefs.proofs.Engine.{bad-policy, bad-state, bad-word, done-word}
 use Rattle.walk.specs.State.{fits}
 use Rattle.walk.proofs.operate.Statement.{statement}
 use Rattle.walk.proofs.operate.Tie as tie
-use Rattle.walk.proofs.valid.Reads as valid-reads′
 
 policy-valid : (c : tie.Else1) → valid (c .before .before .args .policy .now) ≡ true
 policy-valid c = sym (c .before .valid .ensures) ∙ not-false _ (c .if1 .left)

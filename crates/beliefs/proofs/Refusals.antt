@@ -1,0 +1,15 @@
+-- Tests one after the other, each with its number for no: what comes to 0 has passed them all. Assumes nothing.
+use mathlib.Core.Path.{_≡_, refl}
+use mathlib.Core.Bool.{Bool, true, false, cond}
+use Prim.Native.Nat.{ℕ, suc}
+use native.Mathlib.Omega.{arith}
+
+-- a test that refuses where it holds
+pub passed : (b : Bool) (n x : ℕ) → cond b (suc n) x ≡ 0 → (b ≡ false) × (x ≡ 0)
+passed true n x h = absurd (omega arith)
+passed false n x h = (refl, h)
+
+-- and one that refuses where it fails
+pub met : (b : Bool) (n x : ℕ) → cond b x (suc n) ≡ 0 → (b ≡ true) × (x ≡ 0)
+met true n x h = (refl, h)
+met false n x h = absurd (omega arith)
