@@ -2,14 +2,16 @@
 use mathlib.Core.Path.{_≡_, refl, sym, ap, ap₂, _∙_}
 use mathlib.Core.Bool.{Bool, true, false, cond, not, _&&_, _||_, and-false, and-true}
 use mathlib.Core.List.{List, [], _∷_}
-use Prim.Native.Nat.{ℕ, zero, suc}
+use Prim.Native.Nat.{ℕ, zero, suc, _≤_}
 use native.Mathlib.Omega.{arith}
 use mathlib.Core.Logic.{_≢_}
 use lib.Dec.{eqb, ltb}
 use borrow.Author.Tests.{eqb-true, eqb-false, eq-eqb, ne-eqb, ltb-true, ltb-false, lt-ltb, le-ltb}
+use Rattle.bits.specs.Bit.{bit, lowest}
+use Rattle.bits.proofs.Laws.{bit-none, bit-ones, lowest-low}
 use Rattle.beliefs.specs.Lists.{any, all, keep, empty}
 use Rattle.beliefs.specs.Policy.{targets}
-use Rattle.beliefs.specs.Stack.{Principal, Belief, Frame, on, own, said, oks, full, permitted, granted, called, enable, disable, revert}
+use Rattle.beliefs.specs.Stack.{Principal, Belief, Frame, on, own, said, oks, full, startMarks, permitted, granted, called, enable, disable, revert}
 use Rattle.beliefs.specs.Engine.{inherited}
 use Rattle.beliefs.proofs.Lists.{any-map, any-ext, any-and, any-never, any-keep}
 
@@ -133,6 +135,14 @@ module _ (p : List ℕ) (t s : ℕ) where
       go : (e : Bool) → any (own t) (cond e (oks (targets p)) []) ≡ (e && ltb t (targets p))
       go true = oks-own t (targets p)
       go false = refl
+
+  -- and its marks say so
+  pub own-marks : targets p ≤ 64 → any (own t) (called p s [] .beliefs) ≡ bit (startMarks p) t
+  own-marks few = own-start ∙ go (full p)
+    where
+      go : (e : Bool) → (e && ltb t (targets p)) ≡ bit (cond e (lowest (targets p)) 0) t
+      go true = sym (bit-ones (targets p) t) ∙ ap (λ (w : ℕ). bit w t) (sym (lowest-low (targets p) few))
+      go false = sym (bit-none t)
 
   pub inherited-start : any (inherited p t) (called p s [] .beliefs) ≡ false
   unfolding called

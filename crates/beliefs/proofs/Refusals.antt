@@ -5,9 +5,9 @@ use Prim.Native.Nat.{ℕ, suc}
 use native.Mathlib.Omega.{arith}
 
 -- a test that refuses where it holds
-pub passed : (b : Bool) (n x : ℕ) → cond b (suc n) x ≡ 0 → (b ≡ false) × (x ≡ 0)
-passed true n x h = absurd (omega arith)
-passed false n x h = (refl, h)
+pub spared : (b : Bool) (n x : ℕ) → cond b (suc n) x ≡ 0 → (b ≡ false) × (x ≡ 0)
+spared true n x h = absurd (omega arith)
+spared false n x h = (refl, h)
 
 -- and one that refuses where it fails
 pub met : (b : Bool) (n x : ℕ) → cond b x (suc n) ≡ 0 → (b ≡ true) × (x ≡ 0)

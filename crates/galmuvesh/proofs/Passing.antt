@@ -14,9 +14,9 @@ use Rattle.beliefs.specs.declared.Operation.the-variants.{Call, Return, Enable,
 use Rattle.beliefs.specs.Policy.{valid}
 use Rattle.beliefs.specs.Stack.{Frame, called}
 use Rattle.beliefs.specs.Trace.{refuse, done, step}
-use Rattle.beliefs.specs.Engine.{inside}
+use Rattle.beliefs.specs.Engine.{inside, verdictByte}
 use Rattle.passed.specs.declared.Next.the-variants.{Refused}
-use Rattle.passed.specs.State.{checkOf, answerOf, unless, ledTo, passedFits, refusalOf, operateOf}
+use Rattle.passed.specs.State.{checkOf, unless, ledTo, passedFits, refusalOf, operateOf}
 use Rattle.passed.specs.Picture.{PassedOf, Goes}
 use Rattle.passed.proofs.Serves.{operates}
 use Rattle.galmuvesh.specs.Boundary.{passedIn, wordsOf, after, Follows, Moves, Says, Asks}
@@ -69,7 +69,7 @@ module _ (p s : List ℕ) (st : List Frame) (h : PassedOf p (passedIn s) st) (n 
       record { number = g .number; pictures = rw same h }
 
   says : (t lent : ℕ) (e : Bool) → eqb n 0 ≡ e → Goes p st (step p (Check t) st) (cond e (ledTo p (passedIn s) (Check t)) (Refused n))
-      → Says n lent (cond e (answerOf (checkOf p (passedIn s) t)) lent) (step p (Check t) st)
+      → Says n lent (cond e (verdictByte (checkOf p (passedIn s) t) 0) lent) (step p (Check t) st)
   unfolding ledTo
   says t lent true q g = record { number = eqb-true n 0 q ∙ sym (g .number); answer = rw (g .number) (g .byte) }
   says t lent false q g = record { number = g .number; answer = rw (← g .number, q) }
@@ -90,7 +90,7 @@ module _ (p s : List ℕ) where
   })
 
   -- and that of check
-  pub asks-by : (t n lent byte : ℕ) → n ≡ refusalOf p (passedIn s) (Check t) → byte ≡ cond (eqb n 0) (answerOf (checkOf p (passedIn s) t)) lent → Asks p s t n lent byte
+  pub asks-by : (t n lent byte : ℕ) → n ≡ refusalOf p (passedIn s) (Check t) → byte ≡ cond (eqb n 0) (verdictByte (checkOf p (passedIn s) t) 0) lent → Asks p s t n lent byte
   asks-by t n lent byte a b = rw a (record {
     number = refl;
     answer = rw a at b;

@@ -11,9 +11,9 @@ use Rattle.beliefs.specs.declared.Report.{Report}
 use Rattle.beliefs.specs.Policy.{valid}
 use Rattle.beliefs.specs.Stack.{Frame}
 use Rattle.beliefs.specs.Trace.{Outcome, answerByte, step}
-use Rattle.beliefs.specs.Engine.{inside}
+use Rattle.beliefs.specs.Engine.{inside, verdictByte}
 use Rattle.passed.specs.declared.Passed.{Passed}
-use Rattle.passed.specs.State.{callOf, enableOf, disableOf, revertOf, checkOf, answerOf, passedFits, refusalOf}
+use Rattle.passed.specs.State.{callOf, enableOf, disableOf, revertOf, checkOf, passedFits, refusalOf}
 use Rattle.passed.specs.Picture.{PassedOf}
 
 -- the number is returned, the figure goes through a pointer
@@ -53,5 +53,5 @@ pub record Says (n lent byte : ℕ) (o : Outcome) : Type 0 where
 
 pub record Asks (p s : List ℕ) (t n lent byte : ℕ) : Type 0 where
   pub number : n ≡ refusalOf p (passedIn s) (Check t)
-  pub answer : byte ≡ cond (eqb (refusalOf p (passedIn s) (Check t)) 0) (answerOf (checkOf p (passedIn s) t)) lent
+  pub answer : byte ≡ cond (eqb (refusalOf p (passedIn s) (Check t)) 0) (verdictByte (checkOf p (passedIn s) t) 0) lent
   pub serves : valid p ≡ true → passedFits p (passedIn s) ≡ true → inside p (Check t) ≡ true → (st : List Frame) → PassedOf p (passedIn s) st → Says n lent byte (step p (Check t) st)

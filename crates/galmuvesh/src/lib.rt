@@ -220,7 +220,7 @@ pub extern "C" fn galmuvesh_passed_check(
     let s = passed_in(state);
     let number = passed::refusal(policy, s, Operation::Check(target));
     if number == beliefs::ACCEPTED {
-        *answer = passed::answer(s.check(policy, target));
+        *answer = beliefs::verdict_byte(s.check(policy, target), 0);
     }
     number
 }

@@ -15,7 +15,7 @@ use Rattle.bits.specs.Bit.{withoutBit, lowest}
 use Rattle.bits.proofs.Laws.{with-lt, without-lt, without-out, lowest-low}
 use Rattle.beliefs.specs.declared.Operation.{Operation}
 use Rattle.beliefs.specs.declared.Operation.the-variants.{Call, Return, Enable, Disable, Revert, Check}
-use Rattle.beliefs.specs.Numbers.{noSigner, noTarget, noFrame, tooDeep, badPolicy, badState}
+use Rattle.beliefs.specs.Numbers.{badPolicy, badState}
 use Rattle.beliefs.specs.Policy.{signers, targets, row, valid}
 use Rattle.beliefs.specs.Stack.{full, startMarks}
 use Rattle.passed.specs.declared.Passed.{Passed}
@@ -23,6 +23,7 @@ use Rattle.passed.specs.declared.Next.{Next}
 use Rattle.passed.specs.declared.Next.the-variants.{Stay, Down, Up, Refused}
 use Rattle.passed.specs.State.{fresh, grantedOf, callOf, unless, barredOf, ledTo, passedFits, outsideOf, refusalOf, operateOf}
 use Rattle.beliefs.proofs.Policy.{ranges}
+use Rattle.beliefs.proofs.Refusals.{spared, met}
 use Rattle.passed.proofs.Fits.{Framed, fits-framed, framed-fits}
 
 -- the state that an answer carries, where it carries one
@@ -52,15 +53,6 @@ unless-fits p x n k = go (eqb n 0) refl
     go : (e : Bool) → eqb n 0 ≡ e → Fit p (cond e x (Refused n))
     go true q = k (eqb-true n 0 q)
     go false q = tt
-
--- a test that a number for no hangs on
-holds : (b : Bool) (n : ℕ) → n ≢ 0 → cond b 0 n ≡ 0 → b ≡ true
-holds true n ne h = refl
-holds false n ne h = absurd (ne h)
-
-fails : (b : Bool) (n : ℕ) → n ≢ 0 → cond b n 0 ≡ 0 → b ≡ false
-fails true n ne h = absurd (ne h)
-fails false n ne h = refl
 
 module _ (p : List ℕ) (s : Passed) (few : targets p ≤ 64) (fits : passedFits p s ≡ true) where
   call-fits : (g : ℕ) → g < signers p → ltb (s .depth) 63 ≡ true → passedFits p (callOf p s g) ≡ true
@@ -92,13 +84,13 @@ module _ (p : List ℕ) (s : Passed) (few : targets p ≤ 64) (fits : passedFits
   led-fits : (op : Operation) → outsideOf p op ≡ 0 → barredOf (s .depth) op ≡ 0 → Fit p (ledTo p s op)
   unfolding outsideOf barredOf ledTo
   led-fits (Call g) o b =
-      call-fits g (ltb-true g (signers p) (holds (ltb g (signers p)) noSigner (omega arith) o)) (holds (ltb (s .depth) 63) tooDeep (omega arith) b)
+      call-fits g (ltb-true g (signers p) (met (ltb g (signers p)) 4 0 o .0)) (met (ltb (s .depth) 63) 7 0 b .0)
   led-fits Return o b = tt
-  led-fits (Enable t) o b = marks-fit _ _ (fails (eqb (s .depth) 0) noFrame (omega arith) b) (λ f.
-      (with-lt (targets p) (s .own) t (f .own) (ltb-true t (targets p) (holds (ltb t (targets p)) noTarget (omega arith) o)), (f .callers, λ e. e)))
-  led-fits (Disable t) o b = marks-fit _ _ (fails (eqb (s .depth) 0) noFrame (omega arith) b) (λ f.
+  led-fits (Enable t) o b = marks-fit _ _ (spared (eqb (s .depth) 0) 6 0 b .0) (λ f.
+      (with-lt (targets p) (s .own) t (f .own) (ltb-true t (targets p) (met (ltb t (targets p)) 5 0 o .0)), (f .callers, λ e. e)))
+  led-fits (Disable t) o b = marks-fit _ _ (spared (eqb (s .depth) 0) 6 0 b .0) (λ f.
       (without-lt (targets p) (s .own) t (f .own), (without-lt (targets p) (s .callers) t (f .callers), λ e. ap (λ (w : ℕ). withoutBit w t) e ∙ sym (without-out 0 t (pow-pos t)))))
-  led-fits (Revert t) o b = marks-fit _ _ (fails (eqb (s .depth) 0) noFrame (omega arith) b) (λ f. (without-lt (targets p) (s .own) t (f .own), (f .callers, λ e. e)))
+  led-fits (Revert t) o b = marks-fit _ _ (spared (eqb (s .depth) 0) 6 0 b .0) (λ f. (without-lt (targets p) (s .own) t (f .own), (f .callers, λ e. e)))
   led-fits (Check t) o b = fits
 
 pub fresh-fits : (p : List ℕ) → passedFits p fresh ≡ true

@@ -3,44 +3,37 @@
 use mathlib.Core.Path.{_≡_, refl, sym, ap, ap₂, _∙_}
 use mathlib.Core.Bool.{Bool, true, false, cond, _&&_, _||_}
 use mathlib.Core.List.{List, [], _∷_}
-use Prim.Native.Nat.{ℕ, suc, _+_, _*_, _≤_, _<_}
+use Prim.Native.Nat.{ℕ, suc, _≤_, _<_}
 use native.Mathlib.Numerals.{add-one}
 use native.Mathlib.Omega.{arith}
 use lib.Dec.{eqb, ltb}
 use lib.ListN.{length}
 use borrow.Author.Tests.{eq-eqb, ne-eqb, ltb-true}
-use Rattle.bits.specs.Bit.{bit, lowest}
-use Rattle.bits.proofs.Laws.{bit-with, bit-without, bit-and, bit-or, bit-ones, bit-none, lowest-low}
+use Rattle.bits.specs.Bit.{bit}
+use Rattle.bits.proofs.Laws.{bit-with, bit-without, bit-and, bit-or, bit-none}
 use Rattle.beliefs.specs.declared.Operation.{Operation}
 use Rattle.beliefs.specs.declared.Operation.the-variants.{Call, Return, Enable, Disable, Revert, Check}
 use Rattle.beliefs.specs.Numbers.{noFrame, tooDeep}
 use Rattle.beliefs.specs.Policy.{targets, row, permits, valid}
-use Rattle.beliefs.specs.Stack.{Frame, full, startMarks, called, enable, disable, revert, granted}
+use Rattle.beliefs.specs.Stack.{Frame, called, enable, disable, revert, granted}
 use Rattle.beliefs.specs.Trace.{refuse, done, step}
-use Rattle.beliefs.specs.Engine.{inside}
-use Rattle.beliefs.proofs.Granted.{granted-split, own-enable, own-disable, own-revert, inherited-enable, inherited-disable, inherited-revert, own-start, inherited-start, own-called, inherited-called}
+use Rattle.beliefs.specs.Engine.{inside, verdictByte}
+use Rattle.beliefs.proofs.Granted.{granted-split, own-enable, own-disable, own-revert, inherited-enable, inherited-disable, inherited-revert, own-marks, inherited-start, own-called, inherited-called}
 use Rattle.passed.specs.declared.Passed.{Passed}
 use Rattle.passed.specs.declared.Next.{Next}
 use Rattle.passed.specs.declared.Next.the-variants.{Down}
-use Rattle.passed.specs.State.{fresh, grantedOf, callOf, enableOf, disableOf, revertOf, checkOf, answerOf, barredOf, unless, ledTo, nextOf, passedFits, outsideOf, refusalOf, operateOf}
+use Rattle.passed.specs.State.{fresh, grantedOf, callOf, enableOf, disableOf, revertOf, checkOf, barredOf, unless, ledTo, nextOf, passedFits, outsideOf, refusalOf, operateOf}
 use Rattle.passed.specs.Picture.{Knows, PassedOf, Stays, Refuses, Goes, Passes}
-use Rattle.beliefs.proofs.Policy.{ranges}
+use Rattle.beliefs.proofs.Policy.{ranges, in-word}
 
 -- a bit of what goes down is the verdict of a check
 pub granted-bit : (p : List ℕ) (s : Passed) (t : ℕ) → bit (grantedOf p s) t ≡ checkOf p s t
 unfolding checkOf permits
 granted-bit p s t = bit-and (row p (s .signer)) _ t ∙ ap (λ (x : Bool). bit (row p (s .signer)) t && x) (bit-or (s .own) (s .callers) t)
 
--- no frame, and under a full start a bottom frame
+-- no frame
 pub fresh-pictures : (p : List ℕ) → PassedOf p fresh []
 fresh-pictures p = record { few = omega arith; deep = refl; says = refl }
-
-start-bit : (p : List ℕ) (t : ℕ) → targets p ≤ 64 → bit (startMarks p) t ≡ (full p && ltb t (targets p))
-start-bit p t few = go (full p)
-  where
-    go : (e : Bool) → bit (cond e (lowest (targets p)) 0) t ≡ (e && ltb t (targets p))
-    go true = ap (λ (w : ℕ). bit w t) (lowest-low (targets p) few) ∙ bit-ones (targets p) t
-    go false = bit-none t
 
 -- what the operations on a target do to what a frame knows
 module _ (p : List ℕ) (s : Passed) (f : Frame) (k : Knows p s f) (t : ℕ) where
@@ -83,7 +76,7 @@ call-pictures p s g [] low q h = rw (q, eq-eqb (s .depth) 0 (h .deep)) (record {
   deep = refl;
   says = record {
     signer = refl;
-    owns = λ t. start-bit p t low ∙ sym (own-start p t g);
+    owns = λ t. sym (own-marks p t g low);
     inherits = λ t. bit-none t ∙ sym (inherited-start p t g);
   };
 })
@@ -113,10 +106,6 @@ module _ (p : List ℕ) (s : Passed) where
   unframed : PassedOf p s [] → eqb (s .depth) 0 ≡ true
   unframed h = eq-eqb (s .depth) 0 (h .deep)
 
-  answer-byte : (v : Bool) → answerOf v ≡ cond v 1 2 * 64 + 0
-  answer-byte true = refl
-  answer-byte false = refl
-
   call-goes : (g : ℕ) (st : List Frame) → targets p ≤ 64 → PassedOf p s st → Goes p st (step p (Call g) st) (nextOf p s (Call g))
   unfolding step nextOf barredOf ledTo
   call-goes g st low h = rw (← h .deep) (go (ltb (s .depth) 63) refl)
@@ -133,7 +122,7 @@ module _ (p : List ℕ) (s : Passed) where
   serves Return v i [] h = rw (unframed h) no-frame
   serves Return v i (f ∷ r) h = rw (framed-here h) (record { number = refl; byte = refl; framed = omega arith; stack = refl })
   serves (Enable t) v i [] h = rw (unframed h) no-frame
-  serves (Enable t) v i (f ∷ r) h = rw (framed-here h) (stays h _ _ refl (enable-knows p s f (h .says) t (omega (arith, ltb-true t (targets p) i, ranges p v .targets-most))))
+  serves (Enable t) v i (f ∷ r) h = rw (framed-here h) (stays h _ _ refl (enable-knows p s f (h .says) t (in-word p (ranges p v) t i)))
   serves (Disable t) v i [] h = rw (unframed h) no-frame
   serves (Disable t) v i (f ∷ r) h = rw (framed-here h) (stays h _ _ refl (disable-knows p s f (h .says) t))
   serves (Revert t) v i [] h = rw (unframed h) no-frame
@@ -141,7 +130,7 @@ module _ (p : List ℕ) (s : Passed) where
   serves (Check t) v i [] h = rw (unframed h) no-frame
   serves (Check t) v i (f ∷ r) h = rw (framed-here h) (record {
     number = refl;
-    byte = ap answerOf (check-knows p s f (h .says) t r) ∙ answer-byte (granted p t (f ∷ r));
+    byte = ap (λ (v : Bool). verdictByte v 0) (check-knows p s f (h .says) t r);
     pictures = h;
     level = refl;
     under = refl;

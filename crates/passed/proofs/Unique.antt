@@ -7,7 +7,7 @@ use Rattle.bits.proofs.Unique.{one-result}
 use Rattle.beliefs.specs.declared.Operation.{Operation}
 use Rattle.passed.specs.declared.Passed.{Passed}
 use Rattle.passed.specs.declared.Next.{Next}
-use Rattle.passed.specs.State.{fresh, callOf, enableOf, disableOf, revertOf, checkOf, answerOf, passedFits, refusalOf}
+use Rattle.passed.specs.State.{fresh, callOf, enableOf, disableOf, revertOf, checkOf, passedFits, refusalOf}
 use Rattle.passed.specs.Picture.{Passes}
 
 pub fresh-unique : (r q : Passed) → r ≡ fresh → q ≡ fresh → r ≡ q
@@ -27,9 +27,6 @@ revert-unique s t r q = one-result
 
 pub check-unique : (p : List ℕ) (s : Passed) (t : ℕ) (r q : Bool) → r ≡ checkOf p s t → q ≡ checkOf p s t → r ≡ q
 check-unique p s t r q = one-result
-
-pub answer-unique : (granted : Bool) (r q : ℕ) → r ≡ answerOf granted → q ≡ answerOf granted → r ≡ q
-answer-unique granted r q = one-result
 
 pub serve-unique : (p : List ℕ) (s : Passed) (op : Operation) (r q : Next) → Passes p s op r → Passes p s op q → r ≡ q
 serve-unique p s op r q h k = one-result (h .exact) (k .exact)

@@ -10,6 +10,7 @@ use Rattle.beliefs.specs.declared.Operation.the-variants.{Call, Return, Enable,
 use Rattle.beliefs.specs.Numbers.{noSigner, noTarget, noFrame, tooDeep, badPolicy, badState}
 use Rattle.beliefs.specs.Policy.{signers, targets, row, permits, valid}
 use Rattle.beliefs.specs.Stack.{startMarks}
+use Rattle.beliefs.specs.Engine.{verdictByte}
 use Rattle.passed.specs.declared.Passed.{Passed}
 use Rattle.passed.specs.declared.Next.{Next}
 use Rattle.passed.specs.declared.Next.the-variants.{Stay, Down, Up, Refused}
@@ -48,10 +49,6 @@ revertOf s t = record { depth = s .depth; signer = s .signer; own = withoutBit (
 unfoldable pub checkOf : List ℕ → Passed → ℕ → Bool
 checkOf p s t = permits p (s .signer) t && (bit (s .own) t || bit (s .callers) t)
 
--- the answer byte of a check: kind 1 granted, 2 forbidden; no frames are looked at
-abbrev pub answerOf : Bool → ℕ
-answerOf granted = cond granted 64 128
-
 -- 7: no frame
 abbrev pub framed : ℕ → ℕ
 framed depth = cond (eqb depth 0) noFrame 0
@@ -72,7 +69,7 @@ ledTo p s Return = Up
 ledTo p s (Enable t) = Stay (enableOf s t) 0
 ledTo p s (Disable t) = Stay (disableOf s t) 0
 ledTo p s (Revert t) = Stay (revertOf s t) 0
-ledTo p s (Check t) = Stay s (answerOf (checkOf p s t))
+ledTo p s (Check t) = Stay s (verdictByte (checkOf p s t) 0)
 
 -- refused by a number other than 0
 abbrev pub unless : ℕ → Next → Next

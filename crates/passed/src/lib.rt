@@ -1,22 +1,14 @@
 // The passed state: what a frame needs to know of its callers, a bit for each target. It goes down with a call as an argument.
 ghost use mathlib.Core.Path.{_≡_};
-ghost use Rattle.beliefs.specs.Stack.{startMarks};
-ghost use Rattle.passed.specs.State.{fresh, grantedOf, callOf, enableOf, disableOf, revertOf, checkOf, answerOf, barredOf, nothingIn, bitsFit, passedFits, outsideOf, refusalOf};
+ghost use Rattle.passed.specs.State.{fresh, grantedOf, callOf, enableOf, disableOf, revertOf, checkOf, barredOf, nothingIn, bitsFit, passedFits, outsideOf, refusalOf};
 ghost use Rattle.passed.specs.Picture.{Passes};
 use beliefs::Operation;
-
-// The depth at which a call is refused.
-const DEPTH_MOST: u64 = 63;
 
 // A word with no bit set.
 const NO_TARGETS: u64 = 0;
 
-// Answer bytes.
+// The answer byte of an operation that is not a check.
 const DONE: u8 = 0;
-
-const GRANTED: u8 = 64;
-
-const FORBIDDEN: u8 = 128;
 
 // What a frame knows. `own`: what it enabled itself, or a full start handed it, and it has not reverted or disabled since;
 // `callers`: what its callers would have been granted at the call, and it has not disabled since.
@@ -62,11 +54,11 @@ impl Passed {
     pub fn call(self, policy: &[u64; 35], signer: u8) -> Self
         ensures { λ r. ⌜ r ≡ callOf (now (policy .entry)) self signer ⌝ }
     {
-        if DEPTH_MOST <= self.depth {
+        if beliefs::DEPTH_MOST <= self.depth {
             return self;
         }
         if self.depth == 0 {
-            let handed = start(policy);
+            let handed = policy::start_marks(policy);
             return Passed {
                 depth: 1,
                 signer: signer as u64,
@@ -116,24 +108,13 @@ impl Passed {
     }
 }
 
-// What a start hands a bottom frame.
-fn start(policy: &[u64; 35]) -> u64
-    ensures { λ r. ⌜ r ≡ startMarks (now (policy .entry)) ⌝ }
-{
-    if policy::is_full(policy) {
-        bits::ones(policy::targets(policy))
-    } else {
-        0
-    }
-}
-
 // 7 where there is no frame and the operation is not call, 8 for a call at depth 63, 0 for neither.
 fn barred(depth: u64, op: Operation) -> u8
     ensures { λ r. ⌜ r ≡ barredOf depth op ⌝ }
 {
     match op {
         Operation::Call(_) => {
-            if DEPTH_MOST <= depth {
+            if beliefs::DEPTH_MOST <= depth {
                 beliefs::TOO_DEEP
             } else {
                 beliefs::ACCEPTED
@@ -147,13 +128,6 @@ fn barred(depth: u64, op: Operation) -> u8
             }
         }
     }
-}
-
-// The answer byte of a check.
-pub fn answer(granted: bool) -> u8
-    ensures { λ r. ⌜ r ≡ answerOf granted ⌝ }
-{
-    if granted { GRANTED } else { FORBIDDEN }
 }
 
 // What an operation of the policy's signers and targets does: 7, 8, else where it leads.
@@ -170,7 +144,7 @@ pub fn serve(policy: &[u64; 35], s: Passed, op: Operation) -> Next
         Operation::Enable(target) => Next::Stay(s.enable(target), DONE),
         Operation::Disable(target) => Next::Stay(s.disable(target), DONE),
         Operation::Revert(target) => Next::Stay(s.revert(target), DONE),
-        Operation::Check(target) => Next::Stay(s, answer(s.check(policy, target))),
+        Operation::Check(target) => Next::Stay(s, beliefs::verdict_byte(s.check(policy, target), 0)),
     }
 }
 
@@ -207,7 +181,7 @@ pub fn valid(policy: &[u64; 35], s: Passed) -> bool
     if s.depth == 0 {
         return nothing(s);
     }
-    if DEPTH_MOST < s.depth {
+    if beliefs::DEPTH_MOST < s.depth {
         return false;
     }
     if policy::signers(policy) <= s.signer {

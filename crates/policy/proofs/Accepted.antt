@@ -1,8 +1,8 @@
 -- What the numbers 1, 2 and 3 leave: the bytes that reading accepts, and back. Assumes nothing.
-use mathlib.Core.Path.{_≡_, refl}
-use mathlib.Core.Bool.{Bool, true, false, cond}
+use mathlib.Core.Path.{_≡_}
+use mathlib.Core.Bool.{true}
 use mathlib.Core.List.{List}
-use Prim.Native.Nat.{ℕ, suc, _≤_}
+use Prim.Native.Nat.{ℕ, _≤_}
 use native.Mathlib.Omega.{arith}
 use lib.Dec.{eqb, ltb}
 use lib.ListN.{length}
@@ -10,6 +10,7 @@ use borrow.Author.Tests.{le-ltb, ltb-false, eq-eqb, eqb-true}
 use Rattle.bits.specs.Bit.{below}
 use Rattle.beliefs.specs.Lists.{all}
 use Rattle.beliefs.specs.Policy.{header, headSigners, headTargets, headSpare, size, rowsRead, readNumber}
+use Rattle.beliefs.proofs.Refusals.{spared, met}
 
 pub record Accepted (bs : List ℕ) : Type 0 where
   pub headed : 2 ≤ length bs
@@ -17,23 +18,14 @@ pub record Accepted (bs : List ℕ) : Type 0 where
   pub whole : length bs ≡ size (headSigners (header bs)) (headTargets (header bs))
   pub clear : all (λ w. below w (headTargets (header bs))) (rowsRead bs) ≡ true
 
--- a test that refuses where it holds, and one that refuses where it fails
-passed : (b : Bool) (n x : ℕ) → cond b (suc n) x ≡ 0 → (b ≡ false) × (x ≡ 0)
-passed true n x h = absurd (omega arith)
-passed false n x h = (refl, h)
-
-met : (b : Bool) (n x : ℕ) → cond b x (suc n) ≡ 0 → (b ≡ true) × (x ≡ 0)
-met true n x h = (refl, h)
-met false n x h = absurd (omega arith)
-
 pub accepted : (bs : List ℕ) → readNumber bs ≡ 0 → Accepted bs
 unfolding readNumber
 accepted bs h =
     let wanted = size (headSigners (header bs)) (headTargets (header bs)) in
-    let a = passed (ltb (length bs) 2) 0 _ h in
+    let a = spared (ltb (length bs) 2) 0 _ h in
     let b = met (eqb (headSpare (header bs)) 0) 2 _ (a .1) in
-    let c = passed (ltb (length bs) wanted) 0 _ (b .1) in
-    let d = passed (ltb wanted (length bs)) 1 _ (c .1) in
+    let c = spared (ltb (length bs) wanted) 0 _ (b .1) in
+    let d = spared (ltb wanted (length bs)) 1 _ (c .1) in
     let e = met (all (λ w. below w (headTargets (header bs))) (rowsRead bs)) 2 0 (d .1) in
     record {
       headed = ltb-false _ _ (a .0);

@@ -8,12 +8,15 @@ use Rattle.bits.proofs.Unique.{one-result}
 use Rattle.beliefs.specs.declared.Report.{Report}
 use Rattle.beliefs.specs.Account.{Reports}
 use Rattle.beliefs.specs.Policy.{signers, targets, row, valid, writing}
-use Rattle.beliefs.specs.Stack.{full}
+use Rattle.beliefs.specs.Stack.{full, startMarks}
 use Rattle.beliefs.proofs.Unique.{reports-unique}
 use Rattle.policy.specs.Read.{PolicyRead, cutAt}
 
 pub is-full-unique : (p : List ℕ) (r q : Bool) → r ≡ full p → q ≡ full p → r ≡ q
 is-full-unique p r q = one-result
+
+pub start-marks-unique : (p : List ℕ) (r q : ℕ) → r ≡ startMarks p → q ≡ startMarks p → r ≡ q
+start-marks-unique p r q = one-result
 
 pub signers-unique : (p : List ℕ) (r q : ℕ) → r ≡ signers p → q ≡ signers p → r ≡ q
 signers-unique p r q = one-result

@@ -2,18 +2,15 @@
 use mathlib.Core.Path.{_≡_, refl, _∙_}
 use mathlib.Core.List.{List, [], _∷_, _++_, append-nil}
 use Prim.Native.Nat.{ℕ, zero, suc, _+_, _-_, _<_}
+use native.Mathlib.Nat.{zero-add, add-assoc}
 use native.Mathlib.Omega.{arith}
-use lib.ListN.{length, getD, drop, set, replicate, length-append, length-replicate, drop-of-length-le}
-use lib.Seq.{drop-length, drop-cons, sets, sets-eq}
+use lib.ListN.{length, getD, drop, set, replicate, length-append, length-replicate}
+use lib.Seq.{drop-length, sets, sets-eq}
 use Rattle.beliefs.specs.Policy.{header, headStart, headSigners, headTargets, width, start, signers, targets, row, rowsRead, valueRead}
+use Rattle.beliefs.proofs.Lists.{zeros, put-turn, put-end}
 use Rattle.policy.proofs.Rows.{length-rows}
 
 -- zeros after a list are what `getD` finds past its end
-zeros : (n i : ℕ) → getD {A = ℕ} (replicate n 0) i 0 ≡ 0
-zeros zero i = refl
-zeros (suc n) zero = refl
-zeros (suc n) (suc i) = zeros n i
-
 padded : (l : List ℕ) (n i : ℕ) → getD (l ++ replicate n 0) i 0 ≡ getD l i 0
 padded [] n i = zeros n i
 padded (a ∷ l) n zero = refl
@@ -49,13 +46,11 @@ length-value bs =
 -- a value is stored word by word: one row, and the rest after it
 pub store-turn : (l bs : List ℕ) (s : ℕ) → s < 32
     → sets (set l (3 + s) (getD (rowsRead bs) s 0)) (3 + (s + 1)) (drop (3 + (s + 1)) (valueRead bs)) ≡ sets l (3 + s) (drop (3 + s) (valueRead bs))
-store-turn l bs s h =
-    let e : 3 + (s + 1) ≡ suc (3 + s) = omega arith in
-    rw (e, ← value-row bs s, drop-cons (valueRead bs) (3 + s) 0 (omega (arith, length-value bs)))
+store-turn l bs s h = rw (← value-row bs s, ← add-assoc 3 s 1) (simp zero-add at (put-turn l (valueRead bs) 0 (3 + s) (omega (arith, length-value bs))))
 
 -- after the last of them
 pub stored : (l bs : List ℕ) (s : ℕ) → s ≡ 32 → sets l (3 + s) (drop (3 + s) (valueRead bs)) ≡ l
-stored l bs s e = rw (e, drop-of-length-le (valueRead bs) {i = 35} (omega (arith, length-value bs)))
+stored l bs s e = simp zero-add at (put-end l (valueRead bs) 0 (3 + s) (omega (arith, length-value bs)))
 
 -- all 35 words, the header's three first, leave nothing of what was lent
 pub all-stored : (l bs : List ℕ) → length l ≡ 35

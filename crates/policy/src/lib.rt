@@ -10,7 +10,7 @@ ghost use Rattle.beliefs.specs.Account.{Reports};
 ghost use Rattle.beliefs.specs.Policy.{signers, targets, row, within, rowFits, valid};
 ghost use Rattle.beliefs.specs.Policy.{width, size, mirrored, rowOf, rowBytes, rowsOf, rowsBytes, header, headSigners, headTargets, headed};
 ghost use Rattle.beliefs.specs.Policy.{readNumber, valueRead, bytesWritten, writing};
-ghost use Rattle.beliefs.specs.Stack.{full};
+ghost use Rattle.beliefs.specs.Stack.{full, startMarks};
 ghost use Rattle.policy.specs.Read.{PolicyRead, Together, cutAt};
 
 // Whether the start is full.
@@ -18,6 +18,17 @@ pub fn is_full(policy: &[u64; 35]) -> bool
     ensures { λ r. ⌜ r ≡ full (now (policy .entry)) ⌝ }
 {
     policy[0] == 1
+}
+
+// What a start hands a bottom frame: a bit for each of the N targets under a full start, nothing under an empty one.
+pub fn start_marks(policy: &[u64; 35]) -> u64
+    ensures { λ r. ⌜ r ≡ startMarks (now (policy .entry)) ⌝ }
+{
+    if is_full(policy) {
+        bits::ones(targets(policy))
+    } else {
+        0
+    }
 }
 
 // S.
@@ -38,6 +49,7 @@ pub fn targets(policy: &[u64; 35]) -> u64
 pub fn row(policy: &[u64; 35], signer: u64) -> u64
     ensures { λ r. ⌜ r ≡ row (now (policy .entry)) signer ⌝ }
 {
+    // As a slice, so that its length is known.
     let whole: &[u64] = policy;
     if 31 < signer {
         return 0;

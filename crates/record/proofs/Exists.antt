@@ -2,20 +2,20 @@
 use mathlib.Core.Path.{_≡_, refl, sym, ap, ap₂, _∙_}
 use mathlib.Core.Bool.{Bool, true, false, cond, _&&_, _||_, and-false, and-true, and-or-distrib-left, and-or-distrib-right}
 use mathlib.Core.List.{List, [], _∷_, _++_}
-use mathlib.Core.Logic.{_≢_}
 use Prim.Native.Nat.{ℕ, zero, suc, _+_, _*_, _^_, _≤_, _<_}
 use native.Mathlib.Decide.{decLt}
 use native.Mathlib.Omega.{arith}
 use lib.Dec.{eqb, ltb, leb}
-use lib.ListN.{length, getD, take, replicate, length-map, length-replicate, getD-replicate, List·getD-eq-default}
+use lib.ListN.{length, getD, take, replicate, length-map, List·getD-eq-default}
 use lib.Seq.{length-take-le}
-use borrow.Author.Tests.{lt-ltb, le-ltb, ltb-true, ltb-false, leb-true, eqb-true, eqb-false}
+use borrow.Author.Tests.{lt-ltb, le-ltb, ltb-true, ltb-false, leb-true}
 use Rattle.bits.specs.Bit.{bit}
 use Rattle.bits.proofs.Laws.{bit-none, bit-high}
 use Rattle.beliefs.specs.Lists.{any, keep, each}
 use Rattle.beliefs.specs.Policy.{signers, targets}
 use Rattle.beliefs.specs.Stack.{Belief, Frame}
-use Rattle.beliefs.proofs.Lists.{any-ext, any-and, any-keep, each-at}
+use Rattle.beliefs.proofs.Lists.{any-ext, any-and, any-keep, any-append, each-at, zeros}
+use Rattle.beliefs.proofs.Granted.{ltb-step}
 use Rattle.record.specs.Record.{depth, signerAt, heldAt, wordsBelow, words, frameFits, recordFits}
 use Rattle.record.specs.Pictures.{principals, AllFounded, withLength, FramePictured, FramesPictured, Pictures}
 use Rattle.beliefs.proofs.Policy.{both}
@@ -24,11 +24,7 @@ use Rattle.record.proofs.Chains.{at-length}
 use Rattle.record.proofs.Kept.{founded-keep}
 
 pub fresh : (p : List ℕ) → Pictures p (replicate 4096 0) []
-fresh p = record { room = omega arith; deep = refl; frames = tt; above = λ i l. zeros i (decLt i 4096) }
-  where
-    zeros : (i : ℕ) → Dec (i < 4096) → _≡_ {A = ℕ} (getD (replicate 4096 0) i 0) 0
-    zeros i (yes h) = getD-replicate 4096 i 0 0 h
-    zeros i (no h) = List·getD-eq-default (replicate 4096 0) 0 {n = i} (omega (arith, length-replicate {A = ℕ} 4096 0))
+fresh p = record { room = omega arith; deep = refl; frames = tt; above = λ i l. zeros 4096 i }
 
 -- every belief that a frame above r may hold: on each target below n, a chain of each length up to the frames below
 beliefOn : ℕ → List Frame → ℕ → Belief
@@ -62,29 +58,13 @@ module _ (p : List ℕ) (r : List Frame) where
   founded-every (suc t) l = founded-append (beliefsOn t r (suc (length r))) (everyBelief r t) (founded-on t (suc (length r)) l (omega arith)) (founded-every t (omega arith))
 
 -- which targets and lengths these have
-any-append : {A : Type 0} (f : A → Bool) (l m : List A) → any f (l ++ m) ≡ (any f l || any f m)
-any-append f [] m = refl
-any-append f (a ∷ l) m = go (f a) (any-append f l m)
-  where
-    go : (e : Bool) → any f (l ++ m) ≡ (any f l || any f m) → (e || any f (l ++ m)) ≡ ((e || any f l) || any f m)
-    go true q = refl
-    go false q = q
-
-one-more : (k n : ℕ) → (eqb n k || ltb k n) ≡ ltb k (suc n)
-one-more k n = go (eqb n k) refl (ltb k n) refl
-  where
-    go : (e : Bool) → eqb n k ≡ e → (l : Bool) → ltb k n ≡ l → (e || l) ≡ ltb k (suc n)
-    go true q l m = let h : n ≡ k = eqb-true n k q in sym (lt-ltb k (suc n) (omega arith))
-    go false q true m = sym (lt-ltb k (suc n) (omega (arith, ltb-true k n m)))
-    go false q false m = let h : n ≢ k = eqb-false n k q in sym (le-ltb k (suc n) (omega (arith, ltb-false k n m)))
-
 module _ (u k : ℕ) (r : List Frame) where
   on-lengths : (t n : ℕ) → n ≤ suc (length r) → any (withLength u k) (beliefsOn t r n) ≡ (eqb t u && ltb k n)
   unfolding beliefsOn beliefOn
   on-lengths t zero h = sym (ap (λ (x : Bool). eqb t u && x) (le-ltb k 0 (omega arith)) ∙ and-false (eqb t u))
   on-lengths t (suc n) h =
       ap₂ (λ (x y : Bool). (eqb t u && x) || y) (ap (λ (m : ℕ). eqb m k) (chain-length t n r (omega arith))) (on-lengths t n (omega arith))
-      ∙ sym (and-or-distrib-left (eqb t u) (eqb n k) (ltb k n)) ∙ ap (λ (x : Bool). eqb t u && x) (one-more k n)
+      ∙ sym (and-or-distrib-left (eqb t u) (eqb n k) (ltb k n)) ∙ ap (λ (x : Bool). eqb t u && x) (ltb-step k n)
 
   every-lengths : (n : ℕ) → any (withLength u k) (everyBelief r n) ≡ (ltb u n && ltb k (suc (length r)))
   unfolding everyBelief
@@ -92,7 +72,7 @@ module _ (u k : ℕ) (r : List Frame) where
   every-lengths (suc t) =
       any-append (withLength u k) (beliefsOn t r (suc (length r))) (everyBelief r t)
       ∙ ap₂ (λ (x y : Bool). x || y) (on-lengths t (suc (length r)) (omega arith)) (every-lengths t)
-      ∙ sym (and-or-distrib-right (eqb t u) (ltb u t) (ltb k (suc (length r)))) ∙ ap (λ (x : Bool). x && ltb k (suc (length r))) (one-more u t)
+      ∙ sym (and-or-distrib-right (eqb t u) (ltb u t) (ltb k (suc (length r)))) ∙ ap (λ (x : Bool). x && ltb k (suc (length r))) (ltb-step u t)
 
 -- from the words to a stack: the frame above r that they say
 stood : List ℕ → List ℕ → List Frame → Frame

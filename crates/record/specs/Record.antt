@@ -9,10 +9,9 @@ use Rattle.bits.specs.Bit.{bit, withBit, withoutBit, below}
 use Rattle.beliefs.specs.declared.Operation.{Operation}
 use Rattle.beliefs.specs.declared.Operation.the-variants.{Call, Return, Enable, Disable, Revert, Check}
 use Rattle.beliefs.specs.Lists.{each}
-use Rattle.beliefs.specs.Numbers.{noFrame, tooDeep}
 use Rattle.beliefs.specs.Policy.{signers, targets, permits}
 use Rattle.beliefs.specs.Stack.{full}
-use Rattle.beliefs.specs.Engine.{Moved, refuseIn, doneIn}
+use Rattle.beliefs.specs.Engine.{Moved, doneIn, verdictIn, framedIn, deeperIn}
 
 -- the depth; one over 63, which number 14 refuses, counts as 63
 abbrev pub depth : List ℕ → ℕ
@@ -71,21 +70,21 @@ abbrev pub calledIn : List ℕ → ℕ → List ℕ → List ℕ
 calledIn p g s = set (set (filled (65 * depth s + 2) (handed p s) 64 s) (65 * depth s + 1) g) 0 (depth s + 1)
 
 unfoldable pub callIn : List ℕ → ℕ → List ℕ → Moved
-callIn p g s = cond (ltb (depth s) 63) (doneIn (calledIn p g s)) (refuseIn tooDeep s)
+callIn p g s = deeperIn (depth s) (calledIn p g s) s
 
 -- return: the newest frame's words become zero
 abbrev pub clearedIn : List ℕ → List ℕ
 clearedIn s = filled (65 * (depth s - 1) + 1) (λ i. 0) 65 s
 
 unfoldable pub returnIn : List ℕ → Moved
-returnIn s = cond (eqb (depth s) 0) (refuseIn noFrame s) (doneIn (set (clearedIn s) 0 (depth s - 1)))
+returnIn s = framedIn (depth s) (doneIn (set (clearedIn s) 0 (depth s - 1))) s
 
 -- enable, disable and revert: the newest frame's word for a target becomes another
 abbrev pub heldIn : ℕ → ℕ → List ℕ → List ℕ
 heldIn t w s = cond (ltb t 64) (set s (65 * (depth s - 1) + 2 + t) w) s
 
 unfoldable pub holdIn : ℕ → ℕ → List ℕ → Moved
-holdIn t w s = cond (eqb (depth s) 0) (refuseIn noFrame s) (doneIn (heldIn t w s))
+holdIn t w s = framedIn (depth s) (doneIn (heldIn t w s)) s
 
 -- check: each chain length held is tried; the frame followed by a chain of length k is the newest k + 1 frames
 unfoldable pub some : (ℕ → Bool) → ℕ → Bool
@@ -98,9 +97,9 @@ newestPermitted p t s n = each (λ i. permits p (signerAt s (depth s - 1 - i)) t
 unfoldable pub grantedIn : List ℕ → ℕ → List ℕ → Bool
 grantedIn p t s = some (λ k. bit (held s t) k && newestPermitted p t s (suc k)) (depth s)
 
--- the answer byte's kind is granted or forbidden, its count 0
+-- no frame is counted
 unfoldable pub checkIn : List ℕ → ℕ → List ℕ → Moved
-checkIn p t s = cond (eqb (depth s) 0) (refuseIn noFrame s) (record { number = 0; byte = cond (grantedIn p t s) 64 128; state = s })
+checkIn p t s = framedIn (depth s) (verdictIn (grantedIn p t s) 0 s) s
 
 -- enable adds length 0, disable removes every length, revert removes length 0
 abbrev pub stepIn : List ℕ → List ℕ → Operation → Moved

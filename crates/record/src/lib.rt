@@ -11,43 +11,17 @@ use beliefs::Answer;
 use beliefs::Decoded;
 use beliefs::Operation;
 
-// The most frames that there are.
-const FRAMES: u64 = 63;
-
 // The targets that a frame has a word for, and its words: the signer comes first.
 const TARGETS: usize = 64;
 
 const FRAME: usize = 65;
-
-// The answer bytes: this engine counts no frames.
-const DONE: u8 = 0;
-
-const GRANTED: u8 = 64;
-
-const FORBIDDEN: u8 = 128;
-
-// The answer to an operation that is refused, and to one that is accepted.
-fn refused(number: u8) -> Answer
-    ensures { λ r. ⌜ (r .number ≡ number) × (r .byte ≡ 0) ⌝ }
-{
-    Answer { number, byte: 0 }
-}
-
-fn answered(byte: u8) -> Answer
-    ensures { λ r. ⌜ (r .number ≡ 0) × (r .byte ≡ byte) ⌝ }
-{
-    Answer {
-        number: beliefs::ACCEPTED,
-        byte,
-    }
-}
 
 // The depth, 63 where a damaged state says more.
 fn depth(state: &[u64; 4096]) -> u64
     ensures { λ r. ⌜ r ≡ depth (now (state .entry)) ⌝ }
 {
     let said = state[0];
-    if said < FRAMES { said } else { FRAMES }
+    if said < beliefs::DEPTH_MOST { said } else { beliefs::DEPTH_MOST }
 }
 
 // How many frames are below the newest.
@@ -82,6 +56,7 @@ fn words_below(state: &[u64; 4096], from: usize, to: usize, n: u64) -> bool
     requires { ⌜ (from ≤ to) × (to ≤ 4096) ⌝ }
     ensures { λ r. ⌜ r ≡ wordsBelow (now (state .entry)) from to n ⌝ }
 {
+    // As a slice, so that its length is known.
     let whole: &[u64] = state;
     bits::all_fit(&whole[from..to], n)
 }
@@ -131,7 +106,7 @@ fn zero_above(state: &[u64; 4096]) -> bool
     ensures { λ r. ⌜ r ≡ wordsBelow (now (state .entry)) (65 * depth (now (state .entry)) + 1) 4096 0 ⌝ }
 {
     let mut frame = depth(state);
-    while frame < FRAMES {
+    while frame < beliefs::DEPTH_MOST {
         let at = FRAME * frame as usize + 1;
         if !words_below(state, at, at + FRAME, 0) {
             return false;
@@ -145,7 +120,7 @@ fn zero_above(state: &[u64; 4096]) -> bool
 pub fn valid(policy: &[u64; 35], state: &[u64; 4096]) -> bool
     ensures { λ r. ⌜ r ≡ recordFits (now (policy .entry)) (now (state .entry)) ⌝ }
 {
-    if FRAMES < state[0] {
+    if beliefs::DEPTH_MOST < state[0] {
         return false;
     }
     if !frames_fit(policy, state) {
@@ -214,13 +189,13 @@ fn call(policy: &[u64; 35], state: &mut [u64; 4096], signer: u8) -> Answer
     ensures { λ r. ⌜ Gives r (now (state .exit)) (callIn (now (policy .entry)) signer (now (state .entry))) ⌝ }
 {
     let d = depth(state);
-    if FRAMES <= d {
-        return refused(beliefs::TOO_DEEP);
+    if beliefs::DEPTH_MOST <= d {
+        return Answer::refused(beliefs::TOO_DEEP);
     }
     begin(policy, state);
     state[FRAME * d as usize + 1] = signer as u64;
     state[0] = d + 1;
-    answered(DONE)
+    Answer::done()
 }
 
 // The newest frame's words become zero, so that the next frame at its depth finds nothing of it.
@@ -241,11 +216,11 @@ fn leave(state: &mut [u64; 4096]) -> Answer
 {
     let d = depth(state);
     if d == 0 {
-        return refused(beliefs::NO_FRAME);
+        return Answer::refused(beliefs::NO_FRAME);
     }
     clear(state);
     state[0] = d - 1;
-    answered(DONE)
+    Answer::done()
 }
 
 // Enable, disable or revert: the newest frame's word for a target becomes another.
@@ -253,14 +228,14 @@ fn hold(state: &mut [u64; 4096], target: u8, word: u64) -> Answer
     ensures { λ r. ⌜ Gives r (now (state .exit)) (holdIn target word (now (state .entry))) ⌝ }
 {
     if depth(state) == 0 {
-        return refused(beliefs::NO_FRAME);
+        return Answer::refused(beliefs::NO_FRAME);
     }
     if TARGETS <= target as usize {
-        return answered(DONE);
+        return Answer::done();
     }
     let first = FRAME * newest(state) as usize + 2;
     state[first + target as usize] = word;
-    answered(DONE)
+    Answer::done()
 }
 
 // Whether a chain held on the target has only permitted frames. Length k is tried with the newest k + 1 frames, so the
@@ -284,25 +259,22 @@ fn granted(policy: &[u64; 35], state: &[u64; 4096], target: u8) -> bool
     false
 }
 
-// Check, by the newest frame.
+// Check, by the newest frame. This engine counts no frames.
 fn check(policy: &[u64; 35], state: &[u64; 4096], target: u8) -> Answer
     ensures { λ r. ⌜ Gives r (now (state .entry)) (checkIn (now (policy .entry)) target (now (state .entry))) ⌝ }
 {
     if depth(state) == 0 {
-        return refused(beliefs::NO_FRAME);
+        return Answer::refused(beliefs::NO_FRAME);
     }
-    if granted(policy, state, target) {
-        answered(GRANTED)
-    } else {
-        answered(FORBIDDEN)
-    }
+    let given = granted(policy, state, target);
+    Answer::verdict(given, 0)
 }
 
 // One operation that the caller has decoded, refused by 7 or 8.
 pub fn serve(policy: &[u64; 35], state: &mut [u64; 4096], op: Operation) -> Answer
     ensures { λ r. ⌜ Serve (Pictures (now (policy .entry))) false (now (policy .entry)) (now (state .entry)) op r (now (state .exit)) (stepIn (now (policy .entry)) (now (state .entry)) op) ⌝ }
 {
-    // A slice shows the proof its length; an array behind a reference does not.
+    // As a slice, so that its length is known.
     let whole: &[u64] = state;
     match op {
         Operation::Call(s) => call(policy, state, s),

@@ -3,13 +3,13 @@ use mathlib.Core.Path.{_≡_, refl, sym, ap, ap₂, _∙_}
 use mathlib.Core.Bool.{Bool, true, false, cond, not, _&&_, _||_, and-false}
 use mathlib.Core.List.{List, [], _∷_, map}
 use Prim.Native.Nat.{ℕ, _≤_, _<_}
-use lib.Dec.{eqb, ltb}
-use Rattle.bits.specs.Bit.{bit, lowest}
-use Rattle.bits.proofs.Laws.{bit-with, bit-without, bit-none, bit-ones, lowest-low}
+use lib.Dec.{eqb}
+use Rattle.bits.specs.Bit.{bit}
+use Rattle.bits.proofs.Laws.{bit-with, bit-without, bit-none}
 use Rattle.beliefs.specs.declared.Seen.{Seen}
 use Rattle.beliefs.specs.Policy.{targets}
-use Rattle.beliefs.specs.Stack.{Frame, marked, granted, permitted, walk, decides, goesOn, full, called, enable, disable, revert}
-use Rattle.beliefs.proofs.Granted.{granted-split, own-enable, own-disable, own-revert, inherited-enable, inherited-disable, inherited-revert, own-start, inherited-start, own-called, inherited-called}
+use Rattle.beliefs.specs.Stack.{Frame, marked, granted, permitted, walk, decides, goesOn, called, enable, disable, revert}
+use Rattle.beliefs.proofs.Granted.{granted-split, own-enable, own-disable, own-revert, inherited-enable, inherited-disable, inherited-revert, own-marks, inherited-start, own-called, inherited-called}
 use Rattle.walk.specs.Coherent.{Sound, Coherent}
 
 -- one frame's part in the verdict
@@ -55,18 +55,14 @@ module _ (p : List ℕ) (u : ℕ) (f : Frame) (r : List Frame) (h : Sound p f r)
     inherits = λ t. inherited-revert u t f p ∙ h .inherits t;
   }
 
--- a new frame has no disabled mark; at the bottom its marks are the start's
+-- a new frame has no disabled mark
 fresh-mark : (t : ℕ) (g : Bool) → g ≡ (not (bit 0 t) && g)
 fresh-mark t g = ap (λ (x : Bool). not x && g) (sym (bit-none t))
-
-start-marks : (p : List ℕ) (t : ℕ) → targets p ≤ 64 → (e : Bool) → (e && ltb t (targets p)) ≡ bit (cond e (lowest (targets p)) 0) t
-start-marks p t few true = sym (rw (lowest-low (targets p) few) (bit-ones (targets p) t))
-start-marks p t few false = sym (bit-none t)
 
 pub call-sound : (p : List ℕ) (s : ℕ) (r : List Frame) → targets p ≤ 64 → Sound p (called p s r) r
 unfolding called granted
 call-sound p s [] few = record {
-  owns = λ t. own-start p t s ∙ start-marks p t few (full p);
+  owns = λ t. own-marks p t s few;
   inherits = λ t. inherited-start p t s ∙ sym (and-false (not (bit 0 t)));
 }
 call-sound p s (f ∷ r) few = record {

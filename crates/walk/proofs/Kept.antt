@@ -1,22 +1,20 @@
 -- The state stays the picture of the stack that the definitions give. Assumes nothing.
 use mathlib.Core.Path.{_≡_, refl, sym, ap, ap₂, _∙_}
-use mathlib.Core.Bool.{Bool, true, false, cond}
+use mathlib.Core.Bool.{true}
 use mathlib.Core.List.{List, [], _∷_, map}
-use Prim.Native.Nat.{ℕ, suc, _+_, _-_, _*_, _≤_, _<_}
+use Prim.Native.Nat.{ℕ, suc, _+_, _-_, _≤_, _<_}
 use native.Mathlib.Omega.{arith}
-use lib.Dec.{eqb, ltb}
 use lib.ListN.{getD, set, length, replicate}
 use lib.Seq.{getD-set-same}
-use borrow.Author.Tests.{eq-eqb, ne-eqb, ltb-true}
+use borrow.Author.Tests.{ne-eqb}
 use Rattle.beliefs.specs.declared.Answer.{Answer}
 use Rattle.beliefs.specs.declared.Marked.{Marked}
 use Rattle.beliefs.specs.declared.Seen.{Seen}
 use Rattle.beliefs.specs.declared.Operation.{Operation}
 use Rattle.beliefs.specs.declared.Operation.the-variants.{Call, Return, Enable, Disable, Revert, Check}
-use Rattle.beliefs.specs.Policy.{targets}
 use Rattle.beliefs.specs.Stack.{Frame, nobody, marked, granted, walk, called, enable, disable, revert}
-use Rattle.beliefs.specs.Trace.{Outcome, refuse, done, byNewest, checked, step}
-use Rattle.beliefs.specs.Engine.{inside, Moved, refuseIn, doneIn, Gives, Serve}
+use Rattle.beliefs.specs.Trace.{step}
+use Rattle.beliefs.specs.Engine.{inside, Gives, Serve}
 use Rattle.beliefs.proofs.Engine.{Mirrors, call-mirrors, return-mirrors, newest-mirrors, check-mirrors, serves-by}
 use Rattle.beliefs.proofs.Policy.{Ranges, ranges, in-word}
 use Rattle.walk.specs.State.{depth, frameAt, framesAt, frames, put, remarked, markIn, newFrame, callIn, returnIn, checkIn, stepIn}

@@ -141,14 +141,7 @@ fn mark(state: &mut [u64; 190], op: Operation) -> Answer
 fn first_marks(policy: &[u64; 35], d: u64) -> u64
     ensures { λ r. ⌜ r ≡ cond (eqb d 0) (startMarks (now (policy .entry))) 0 ⌝ }
 {
-    if d != 0 {
-        return 0;
-    }
-    if policy::is_full(policy) {
-        bits::ones(policy::targets(policy))
-    } else {
-        0
-    }
+    if d == 0 { policy::start_marks(policy) } else { 0 }
 }
 
 // A new newest frame.

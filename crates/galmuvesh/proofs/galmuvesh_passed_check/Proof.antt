@@ -14,13 +14,13 @@ refusal-requires c κs = search needs
 check-requires : tie.Need-check-requires
 check-requires c κs = search needs
 
-answer-requires : tie.Need-answer-requires
-answer-requires c κs = search needs
+verdict-byte-requires : tie.Need-verdict-byte-requires
+verdict-byte-requires c κs = search needs
 
 returns : tie.Need-returns
 returns c =
     let s = c .before .before .before .before .passed-in in
-    asks-by _ _ _ _ _ _ (rw (← s .ensures) (c .before .before .before .refusal .ensures)) (rw (eq-eqb _ _ (c .before .before .if1 .taken), ← s .ensures, ← c .before .check .ensures) (c .answer .ensures))
+    asks-by _ _ _ _ _ _ (rw (← s .ensures) (c .before .before .before .refusal .ensures)) (rw (eq-eqb _ _ (c .before .before .if1 .taken), ← s .ensures, ← c .before .check .ensures) (c .verdict-byte .ensures))
 
 returns-2 : tie.Need-returns-2
 returns-2 c = asks-by _ _ _ _ _ _ (rw (← c .before .before .passed-in .ensures) (c .before .refusal .ensures)) (rw (ne-eqb _ _ (c .if1 .left)))
@@ -28,4 +28,4 @@ returns-2 c = asks-by _ _ _ _ _ _ (rw (← c .before .before .passed-in .ensures
 pub galmuvesh-passed-check-spec : {M : Type 1} → statement M
 galmuvesh-passed-check-spec =
     tie.close
-    (tie.spec passed-in-requires refusal-requires check-requires answer-requires returns returns-2)
+    (tie.spec passed-in-requires refusal-requires check-requires verdict-byte-requires returns returns-2)

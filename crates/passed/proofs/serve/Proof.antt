@@ -54,8 +54,8 @@ enum-known-op-5 c = search needs
 check-requires : tie.Need-check-requires
 check-requires c κs = search needs
 
-answer-requires : tie.Need-answer-requires
-answer-requires c κs = search needs
+verdict-byte-requires : tie.Need-verdict-byte-requires
+verdict-byte-requires c κs = search needs
 
 returns-2 : tie.Need-returns-2
 unfolding ledTo
@@ -79,7 +79,7 @@ returns-6 c = passes _ _ _ _ (rw (led (c .before .before .before .before), c .be
 
 returns-7 : tie.Need-returns-7
 unfolding ledTo
-returns-7 c = passes _ _ _ _ (rw (led (c .before .before .before .before .before), c .before .before .before .op5 .given .1, ← c .before .check .ensures, c .answer .ensures))
+returns-7 c = passes _ _ _ _ (rw (led (c .before .before .before .before .before), c .before .before .before .op5 .given .1, ← c .before .check .ensures, c .verdict-byte .ensures))
 
 pub serve-spec : {M : Type 1} → statement M
 serve-spec =
@@ -98,7 +98,7 @@ serve-spec =
     revert-requires
     enum-known-op-5
     check-requires
-    answer-requires
+    verdict-byte-requires
     returns-2
     returns-3
     returns-4

@@ -7,7 +7,7 @@ use Prim.Native.Nat.{ℕ, _+_, _*_}
 use native.Mathlib.Omega.{arith}
 use lib.ListN.{set}
 use Rattle.record.specs.Record.{depth, callIn}
-use Rattle.record.proofs.Served.{gives}
+use Rattle.beliefs.proofs.Engine.{gives}
 use Rattle.record.proofs.call.Statement.{statement}
 use Rattle.record.proofs.call.Tie as tie
 
@@ -42,8 +42,8 @@ add-state-2 c = search needs
 element-write-state-2 : tie.Need-element-write-state-2
 element-write-state-2 c = search needs
 
-answered-requires : tie.Need-answered-requires
-answered-requires c κs = search needs
+done-requires : tie.Need-done-requires
+done-requires c κs = search needs
 
 returns-2 : tie.Need-returns-2
 unfolding callIn
@@ -51,7 +51,7 @@ returns-2 c =
     let s : List ℕ = c .before .before .before .before .before .before .args .state .now in
     let g : ℕ = c .before .before .before .before .before .before .args .signer in
     rw (lt-ltb (depth s) 63 (omega arith))
-    (gives (c .answered .ensures) (ap₂ (λ (l : List ℕ) (d : ℕ). set (set l (65 * d + 1) g) 0 (d + 1)) (c .before .begin .ensures) (c .before .before .before .before .depth .ensures)))
+    (gives (c .done .ensures) (ap₂ (λ (l : List ℕ) (d : ℕ). set (set l (65 * d + 1) g) 0 (d + 1)) (c .before .begin .ensures) (c .before .before .before .before .depth .ensures)))
 
 pub call-spec : {M : Type 1} → statement M
 call-spec =
@@ -67,5 +67,5 @@ call-spec =
     element-write-state
     add-state-2
     element-write-state-2
-    answered-requires
+    done-requires
     returns-2)

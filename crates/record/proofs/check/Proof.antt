@@ -1,9 +1,9 @@
--- One answer for each verdict.
+-- The verdict is the definition's, and no frame is counted.
 use borrow.Author.Needs.{needs}
 use borrow.Author.Tests.{eq-eqb, ne-eqb}
 use mathlib.Core.Path.{refl}
+use Rattle.beliefs.proofs.Engine.{gives}
 use Rattle.record.specs.Record.{checkIn}
-use Rattle.record.proofs.Served.{gives}
 use Rattle.record.proofs.check.Statement.{statement}
 use Rattle.record.proofs.check.Tie as tie
 
@@ -20,29 +20,12 @@ returns c = rw (← c .before .before .depth .ensures, eq-eqb _ _ (c .before .if
 granted-requires : tie.Need-granted-requires
 granted-requires c κs = search needs
 
-answered-requires : tie.Need-answered-requires
-answered-requires c κs = search needs
-
-answered-requires-2 : tie.Need-answered-requires-2
-answered-requires-2 c κs = search needs
+verdict-requires : tie.Need-verdict-requires
+verdict-requires c κs = search needs
 
 returns-2 : tie.Need-returns-2
 unfolding checkIn
-returns-2 c = rw (← c .before .before .before .before .depth .ensures, ne-eqb _ _ (c .before .before .before .if1 .left), ← c .before .before .granted .ensures, c .before .if2 .taken) (gives (c .answered .ensures) refl)
-
-returns-3 : tie.Need-returns-3
-unfolding checkIn
-returns-3 c = rw (← c .before .before .before .before .depth .ensures, ne-eqb _ _ (c .before .before .before .if1 .left), ← c .before .before .granted .ensures, c .before .if2 .left) (gives (c .answered2 .ensures) refl)
+returns-2 c = rw (← c .before .before .before .depth .ensures, ne-eqb _ _ (c .before .before .if1 .left), ← c .before .granted .ensures) (gives (c .verdict .ensures) refl)
 
 pub check-spec : {M : Type 1} → statement M
-check-spec =
-    tie.close
-    (tie.spec
-    depth-requires
-    refused-requires
-    returns
-    granted-requires
-    answered-requires
-    answered-requires-2
-    returns-2
-    returns-3)
+check-spec = tie.close (tie.spec depth-requires refused-requires returns granted-requires verdict-requires returns-2)

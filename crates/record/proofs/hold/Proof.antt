@@ -3,7 +3,7 @@ use borrow.Author.Needs.{needs}
 use borrow.Author.Tests.{lt-ltb, le-ltb, eq-eqb, ne-eqb}
 use mathlib.Core.Path.{refl}
 use Rattle.record.specs.Record.{holdIn}
-use Rattle.record.proofs.Served.{gives}
+use Rattle.beliefs.proofs.Engine.{gives}
 use Rattle.record.proofs.hold.Statement.{statement}
 use Rattle.record.proofs.hold.Tie as tie
 
@@ -17,12 +17,12 @@ returns : tie.Need-returns
 unfolding holdIn
 returns c = rw (← c .before .before .depth .ensures, eq-eqb _ _ (c .before .if1 .taken)) (gives (c .refused .ensures) refl)
 
-answered-requires : tie.Need-answered-requires
-answered-requires c κs = search needs
+done-requires : tie.Need-done-requires
+done-requires c κs = search needs
 
 returns-2 : tie.Need-returns-2
 unfolding holdIn
-returns-2 c = rw (← c .before .before .before .depth .ensures, ne-eqb _ _ (c .before .before .if1 .left), le-ltb _ 64 (c .before .if2 .taken)) (gives (c .answered .ensures) refl)
+returns-2 c = rw (← c .before .before .before .depth .ensures, ne-eqb _ _ (c .before .before .if1 .left), le-ltb _ 64 (c .before .if2 .taken)) (gives (c .done .ensures) refl)
 
 newest-requires : tie.Need-newest-requires
 newest-requires c κs = search needs
@@ -42,8 +42,8 @@ mul-state c = search needs
 element-write-state : tie.Need-element-write-state
 element-write-state c = search needs
 
-answered-requires-2 : tie.Need-answered-requires-2
-answered-requires-2 c κs = search needs
+done-requires-2 : tie.Need-done-requires-2
+done-requires-2 c κs = search needs
 
 returns-3 : tie.Need-returns-3
 unfolding holdIn
@@ -54,7 +54,7 @@ returns-3 c =
       ne-eqb _ _ (c .before .before .before .before .if1 .left),
       lt-ltb _ 64 (c .before .before .before .if2 .left),
     )
-    (gives (c .answered2 .ensures) refl)
+    (gives (c .done2 .ensures) refl)
 
 pub hold-spec : {M : Type 1} → statement M
 hold-spec =
@@ -63,7 +63,7 @@ hold-spec =
     depth-requires
     refused-requires
     returns
-    answered-requires
+    done-requires
     returns-2
     newest-requires
     mul-first
@@ -71,5 +71,5 @@ hold-spec =
     add-state
     mul-state
     element-write-state
-    answered-requires-2
+    done-requires-2
     returns-3)

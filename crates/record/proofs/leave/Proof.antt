@@ -6,7 +6,7 @@ use mathlib.Core.List.{List}
 use Prim.Native.Nat.{ℕ, _-_}
 use lib.ListN.{set}
 use Rattle.record.specs.Record.{depth, returnIn}
-use Rattle.record.proofs.Served.{gives}
+use Rattle.beliefs.proofs.Engine.{gives}
 use Rattle.record.proofs.leave.Statement.{statement}
 use Rattle.record.proofs.leave.Tie as tie
 
@@ -29,14 +29,14 @@ sub-state c = search needs
 element-write-state : tie.Need-element-write-state
 element-write-state c = search needs
 
-answered-requires : tie.Need-answered-requires
-answered-requires c κs = search needs
+done-requires : tie.Need-done-requires
+done-requires c κs = search needs
 
 returns-2 : tie.Need-returns-2
 unfolding returnIn
 returns-2 c =
     rw (ne-eqb (depth (c .before .before .before .before .before .before .args .state .now)) 0 (λ e. c .before .before .before .if1 .left (c .before .before .before .before .depth .ensures ∙ e)))
-    (gives (c .answered .ensures) (ap₂ (λ (l : List ℕ) (d : ℕ). set l 0 (d - 1)) (c .before .clear .ensures) (c .before .before .before .before .depth .ensures)))
+    (gives (c .done .ensures) (ap₂ (λ (l : List ℕ) (d : ℕ). set l 0 (d - 1)) (c .before .clear .ensures) (c .before .before .before .before .depth .ensures)))
 
 pub leave-spec : {M : Type 1} → statement M
 leave-spec =
@@ -48,5 +48,5 @@ leave-spec =
     clear-requires
     sub-state
     element-write-state
-    answered-requires
+    done-requires
     returns-2)

@@ -9,12 +9,12 @@ returns : tie.Need-returns
 unfolding callOf
 returns c = rw (le-ltb _ _ (c .if1 .taken))
 
-start-requires : tie.Need-start-requires
-start-requires c κs = search needs
+start-marks-requires : tie.Need-start-marks-requires
+start-marks-requires c κs = search needs
 
 returns-2 : tie.Need-returns-2
 unfolding callOf
-returns-2 c = rw (lt-ltb _ _ (c .before .before .before .if1 .left), eq-eqb _ _ (c .before .if2 .taken), c .start .ensures)
+returns-2 c = rw (lt-ltb _ _ (c .before .before .before .if1 .left), eq-eqb _ _ (c .before .if2 .taken), c .start-marks .ensures)
 
 granted-requires : tie.Need-granted-requires
 granted-requires c κs = search needs
@@ -27,4 +27,4 @@ unfolding callOf
 returns-3 c = rw (lt-ltb _ _ (c .before .before .before .before .if1 .left), ne-eqb _ _ (c .before .before .if2 .left), c .before .granted .ensures)
 
 pub call-spec : {M : Type 1} → statement M
-call-spec = tie.close (tie.spec returns start-requires returns-2 granted-requires add-t8 returns-3)
+call-spec = tie.close (tie.spec returns start-marks-requires returns-2 granted-requires add-t8 returns-3)

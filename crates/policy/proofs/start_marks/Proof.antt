@@ -1,7 +1,7 @@
 -- Under a full start the N lowest bits, else none.
 use borrow.Author.Needs.{needs}
-use Rattle.passed.proofs.start.Statement.{statement}
-use Rattle.passed.proofs.start.Tie as tie
+use Rattle.policy.proofs.start_marks.Statement.{statement}
+use Rattle.policy.proofs.start_marks.Tie as tie
 
 is-full-requires : tie.Need-is-full-requires
 is-full-requires c κs = search needs
@@ -18,5 +18,5 @@ returns c = rw (← c .before .before .before .is-full .ensures, c .before .befo
 returns-2 : tie.Need-returns-2
 returns-2 c = rw (← c .before .is-full .ensures, c .if1 .left)
 
-pub start-spec : {M : Type 1} → statement M
-start-spec = tie.close (tie.spec is-full-requires targets-requires ones-requires returns returns-2)
+pub start-marks-spec : {M : Type 1} → statement M
+start-marks-spec = tie.close (tie.spec is-full-requires targets-requires ones-requires returns returns-2)
