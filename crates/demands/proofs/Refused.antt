@@ -16,7 +16,8 @@ use Rattle.beliefs.specs.Policy.{signers, targets, size, valid, writing}
 use Rattle.beliefs.specs.Stack.{walk as walked}
 use Rattle.beliefs.specs.Derivation.{derived}
 use Rattle.beliefs.specs.Words.{decoded}
-use Rattle.beliefs.specs.Engine.{Moved, refuseIn, decodedIn, guarded, Operated}
+use Rattle.beliefs.specs.Numbers.{noFrame, tooDeep}
+use Rattle.beliefs.specs.Engine.{Moved, refuseIn, doneIn, framedIn, deeperIn, decodedIn, guarded, Operated}
 use Rattle.walk.specs.State as walk
 use Rattle.record.specs.Record as record′
 use Rattle.derivation.specs.Promise as promised
@@ -30,29 +31,35 @@ module _ (s : List ℕ) where
   either true a b h k = h
   either false a b h k = k
 
-  accepted : (m : Moved) → m .number ≡ 0 → Leaves s m
-  accepted m e = record { keeps = λ nz. absurd (nz e) }
-
   left : (n : ℕ) → Leaves s (refuseIn n s)
   left n = record { keeps = λ nz. refl }
 
+  accepted : (m : Moved) → m .number ≡ 0 → Leaves s m
+  accepted m e = record { keeps = λ nz. absurd (nz e) }
+
+  deeper : (depth : ℕ) (more : List ℕ) → Leaves s (deeperIn depth more s)
+  deeper depth more = either (ltb depth 63) (doneIn more) (refuseIn tooDeep s) (accepted (doneIn more) refl) (left tooDeep)
+
+  framed : (depth : ℕ) (m : Moved) → m .number ≡ 0 → Leaves s (framedIn depth m s)
+  framed depth m e = either (eqb depth 0) (refuseIn noFrame s) m (left noFrame) (accepted m e)
+
   pub walk-leaves : (p : List ℕ) (op : Operation) → Leaves s (walk.stepIn p s op)
   unfolding walk.callIn walk.returnIn walk.markIn walk.checkIn
-  walk-leaves p (Call g) = either (ltb (walk.depth s) 63) _ _ (accepted _ refl) (left 8)
-  walk-leaves p Return = either (eqb (walk.depth s) 0) _ _ (left 7) (accepted _ refl)
-  walk-leaves p (Enable t) = either (eqb (walk.depth s) 0) _ _ (left 7) (accepted _ refl)
-  walk-leaves p (Disable t) = either (eqb (walk.depth s) 0) _ _ (left 7) (accepted _ refl)
-  walk-leaves p (Revert t) = either (eqb (walk.depth s) 0) _ _ (left 7) (accepted _ refl)
-  walk-leaves p (Check t) = either (eqb (walk.depth s) 0) _ _ (left 7) (accepted _ refl)
+  walk-leaves p (Call g) = deeper (walk.depth s) _
+  walk-leaves p Return = framed (walk.depth s) _ refl
+  walk-leaves p (Enable t) = framed (walk.depth s) _ refl
+  walk-leaves p (Disable t) = framed (walk.depth s) _ refl
+  walk-leaves p (Revert t) = framed (walk.depth s) _ refl
+  walk-leaves p (Check t) = framed (walk.depth s) _ refl
 
   pub record-leaves : (p : List ℕ) (op : Operation) → Leaves s (record′.stepIn p s op)
   unfolding record′.callIn record′.returnIn record′.holdIn record′.checkIn
-  record-leaves p (Call g) = either (ltb (record′.depth s) 63) _ _ (accepted _ refl) (left 8)
-  record-leaves p Return = either (eqb (record′.depth s) 0) _ _ (left 7) (accepted _ refl)
-  record-leaves p (Enable t) = either (eqb (record′.depth s) 0) _ _ (left 7) (accepted _ refl)
-  record-leaves p (Disable t) = either (eqb (record′.depth s) 0) _ _ (left 7) (accepted _ refl)
-  record-leaves p (Revert t) = either (eqb (record′.depth s) 0) _ _ (left 7) (accepted _ refl)
-  record-leaves p (Check t) = either (eqb (record′.depth s) 0) _ _ (left 7) (accepted _ refl)
+  record-leaves p (Call g) = deeper (record′.depth s) _
+  record-leaves p Return = framed (record′.depth s) _ refl
+  record-leaves p (Enable t) = framed (record′.depth s) _ refl
+  record-leaves p (Disable t) = framed (record′.depth s) _ refl
+  record-leaves p (Revert t) = framed (record′.depth s) _ refl
+  record-leaves p (Check t) = framed (record′.depth s) _ refl
 
   decoded-leaves : (act : Operation → Moved) → ((op : Operation) → Leaves s (act op)) → (d : Decoded) → Leaves s (decodedIn act d s)
   decoded-leaves act h (Word x) = h (x .op)

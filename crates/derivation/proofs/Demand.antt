@@ -21,7 +21,7 @@ use Rattle.beliefs.specs.Stack.{Frame, marked, granted, walk, called, enable, d
 use Rattle.beliefs.specs.Trace.{refuse, done, byNewest, step}
 use Rattle.beliefs.specs.Engine.{inside}
 use Rattle.beliefs.specs.Derivation.{Entry, rule, follow, judge, judged, ours}
-use Rattle.beliefs.proofs.Policy.{Ranges, ranges}
+use Rattle.beliefs.proofs.Policy.{Ranges, ranges, in-word}
 use Rattle.walk.specs.Coherent.{Sound, Coherent}
 use Rattle.walk.proofs.Agree.{agree, enable-sound, disable-sound, revert-sound, call-sound}
 use Rattle.beliefs.proofs.Counts.{looked-le}
@@ -69,9 +69,6 @@ pub record Kept (p : List ℕ) (st : List Frame) : Type 0 where
   pub room : length st ≤ 63
 
 module _ (p : List ℕ) (ok : Ranges p) where
-  few : (t : ℕ) → ltb t (targets p) ≡ true → t < 64
-  few t h = omega (arith, ltb-true t (targets p) h, ok .targets-most)
-
   by-newest : (g : Frame → Frame) → ((f : Frame) (r : List Frame) → Sound p f r → Sound p (g f) r) → (st : List Frame) → Kept p st → Kept p (byNewest g st .stack)
   by-newest g k [] h = h
   by-newest g k (f ∷ r) h = record { coherent = (k f r (h .coherent .0), h .coherent .1); room = h .room }
@@ -85,8 +82,8 @@ module _ (p : List ℕ) (ok : Ranges p) where
       go false q = h
   kept Return i [] h = h
   kept Return i (f ∷ r) h = record { coherent = h .coherent .1; room = omega (arith, h .room) }
-  kept (Enable t) i st h = by-newest (enable t) (λ f r k. enable-sound p t f r k (few t i)) st h
-  kept (Disable t) i st h = by-newest (disable t) (λ f r k. disable-sound p t f r k (few t i)) st h
+  kept (Enable t) i st h = by-newest (enable t) (λ f r k. enable-sound p t f r k (in-word p ok t i)) st h
+  kept (Disable t) i st h = by-newest (disable t) (λ f r k. disable-sound p t f r k (in-word p ok t i)) st h
   kept (Revert t) i st h = by-newest (revert t) (λ f r k. revert-sound p t f r k) st h
   kept (Check t) i [] h = h
   kept (Check t) i (f ∷ r) h = h

@@ -19,9 +19,8 @@ use Rattle.beliefs.specs.Account.{Account, told}
 use Rattle.beliefs.specs.Policy.{targets, valid}
 use Rattle.beliefs.specs.Stack.{walk}
 use Rattle.beliefs.specs.Derivation.{Entry, rule, follow, judge, judged, ours, shown, derived}
-use Rattle.walk.specs.State.{depth, framesAt, frames, fits}
-use Rattle.walk.proofs.Frames.{framesAt-length}
-use Rattle.beliefs.proofs.Counts.{looked-le}
+use Rattle.walk.specs.State.{framesAt, frames, fits}
+use Rattle.walk.proofs.Frames.{six-bits}
 use Rattle.derivation.specs.declared.Chain.{Chain}
 use Rattle.derivation.specs.Chain.{entryAt, firsts, entries, Held, held, with-took}
 use Rattle.derivation.specs.Promise.{barred, guarded, checking, writing}
@@ -129,17 +128,13 @@ module _ (p s : List ℕ) (t : ℕ) (through : barred p s t ≡ 0) where
     pub write-forbidden : seen .granted ≡ false → writing p s t room ≡ told forbidden 0
     write-forbidden g = rw (written, g)
 
-    -- six bits hold the frames looked at
-    pub six-bits : seen .looked % 64 ≡ seen .looked
-    six-bits =
-        let few : walk p t (frames s) .looked ≤ length (frames s) = looked-le p t (frames s) in
-        let same : seen .looked ≡ walk p t (frames s) .looked = ap (λ (v : Seen). v .looked) e in
-        omega (arith, framesAt-length s (depth s))
+    few : seen .looked % 64 ≡ seen .looked
+    few = six-bits p s t seen e
 
     module _ (g : seen .granted ≡ true) where
       pub write-short : room < 3 * (seen .looked % 64) + 1 → writing p s t room ≡ told noRoom 0
-      write-short h = rw (written, g) (rw (← six-bits, lt-ltb room _ h))
+      write-short h = rw (written, g) (rw (← few, lt-ltb room _ h))
 
       pub write-done : 3 * (seen .looked % 64) + 1 ≤ room
           → writing p s t room ≡ record { number = 0; figure = 3 * (seen .looked % 64) + 1; written = ours (seen .looked % 64) }
-      write-done h = rw (written, g) (rw (six-bits, le-ltb room (3 * seen .looked + 1) (rw six-bits at h)))
+      write-done h = rw (written, g) (rw (few, le-ltb room (3 * seen .looked + 1) (rw few at h)))

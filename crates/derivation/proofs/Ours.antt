@@ -39,9 +39,6 @@ places-next r k n h = let e : n - k ≡ suc (n - (k + 1)) = omega arith in rw (e
 pub drops-next : (k n : ℕ) → k < n → replicate {A = ℕ} (n - k) 192 ≡ 192 ∷ replicate (n - (k + 1)) 192
 drops-next k n h = let e : n - k ≡ suc (n - (k + 1)) = omega arith in rw e
 
-pub put-next : (l : List ℕ) (at k v : ℕ) (vs ws : List ℕ) → ws ≡ v ∷ vs → sets (set l (at + k) v) (at + (k + 1)) vs ≡ sets l (at + k) ws
-put-next l at k v vs ws e = let up : at + (k + 1) ≡ suc (at + k) = omega arith in rw (e, up)
-
 -- and the four runs in their order
 pub ours-put : (l : List ℕ) (n : ℕ) → sets (sets (sets (set l 0 n) 1 (atPlaces 1 0 n)) (n + 1) (atPlaces 2 0 n)) (2 * n + 1) (replicate n 192) ≡ sets l 0 (ours n)
 unfolding ours

@@ -1,10 +1,10 @@
 -- Bytes that are put one after another stand in the buffer as one. Assumes nothing.
 use mathlib.Core.Path.{_≡_, refl, ap, _∙_}
 use mathlib.Core.List.{List, [], _∷_, _++_}
-use Prim.Native.Nat.{ℕ, suc, _+_, _≤_, _<_}
+use Prim.Native.Nat.{ℕ, _+_, _≤_, _<_}
 use native.Mathlib.Omega.{arith}
-use lib.ListN.{length, getD, take, drop, set, length-append, drop-of-length-le}
-use lib.Seq.{sets, length-sets, sets-eq, drop-cons, take-append-seam, length-take-le}
+use lib.ListN.{length, take, drop, set, length-append}
+use lib.Seq.{length-sets, sets-eq, take-append-seam, length-take-le}
 use borrow.Author.Tests.{lt-ltb, le-ltb}
 use Rattle.beliefs.proofs.Lists.{sets-more}
 use Rattle.lines.specs.Promise.{Puts, Lined}
@@ -17,17 +17,6 @@ then {l} {m} {n} {i} {j} {k} {a} {b} p q = record {
 
 pub one : (l : List ℕ) (i v : ℕ) → Puts l (set l i v) i (i + 1) (v ∷ [])
 one l i v = record { until = refl; buffer = refl }
-
--- a text goes in from its first byte to its last: one of them, and the rest after it
-pub turn : (l text : List ℕ) (at i : ℕ) → i < length text → sets (set l (at + i) (getD text i 0)) (at + (i + 1)) (drop (i + 1) text) ≡ sets l (at + i) (drop i text)
-turn l text at i h =
-    let e : i + 1 ≡ suc i = omega arith in
-    let f : at + suc i ≡ suc (at + i) = omega arith in
-    rw (e, f, drop-cons text i 0 h)
-
--- after the last of them
-pub all-in : (l text : List ℕ) (at i : ℕ) → length text ≤ i → sets l (at + i) (drop i text) ≡ l
-all-in l text at i h = rw (drop-of-length-le text {i = i} h)
 
 -- what was put at the front of a line is what is carried out of it
 pub carried : {l m : List ℕ} {n : ℕ} {bytes : List ℕ} → Puts l m 0 n bytes → length bytes ≤ length l → take n m ≡ bytes

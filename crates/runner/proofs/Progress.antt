@@ -17,6 +17,7 @@ use Rattle.beliefs.specs.Policy.{valid}
 use Rattle.beliefs.specs.Stack.{Frame}
 use Rattle.beliefs.specs.Trace.{answerByte, served, runFrom, run}
 use Rattle.beliefs.proofs.Lists.{sets-more}
+use Rattle.beliefs.proofs.Refusals.{spared, met}
 use Rattle.runner.specs.Progress.{barred, decodedAt, Answered, Stopped}
 
 -- answers, one after the other
@@ -96,14 +97,11 @@ module _ (counts : Bool) (p trace lent : List ℕ) where
 
   pub not-barred : barred p (length trace) (length lent) ≡ 0 → (valid p ≡ true) × (length trace % 2 ≡ 0) × (length trace / 2 ≤ length lent)
   unfolding barred
-  not-barred e = go (valid p) refl (eqb (length trace % 2) 0) refl (ltb (length lent) (length trace / 2)) refl e
-    where
-      go : (a : Bool) → valid p ≡ a → (b : Bool) → eqb (length trace % 2) 0 ≡ b → (c : Bool) → ltb (length lent) (length trace / 2) ≡ c → _≡_ {A = ℕ} (cond a (cond b (cond c 9 0) 1) 13) 0
-          → (valid p ≡ true) × (length trace % 2 ≡ 0) × (length trace / 2 ≤ length lent)
-      go true v true x true y q = absurd (omega arith)
-      go true v true x false y q = (v, eqb-true _ 0 x, ltb-false _ _ y)
-      go true v false x c y q = absurd (omega arith)
-      go false v b x c y q = absurd (omega arith)
+  not-barred e =
+      let a = met (valid p) 12 _ e in
+      let b = met (eqb (length trace % 2) 0) 0 _ (a .1) in
+      let c = spared (ltb (length lent) (length trace / 2)) 8 0 (b .1) in
+      (a .0, eqb-true _ 0 (b .0), ltb-false _ _ (c .0))
 
   pub in-the-end : barred p (length trace) (length lent) ≡ 0 → (at number : ℕ) (left : List ℕ) → Stopped counts p trace lent [] 0 at number left
       → Reports (record { number = number; figure = at }) lent left (run counts p trace (length lent))

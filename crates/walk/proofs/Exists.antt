@@ -6,18 +6,19 @@ use Prim.Native.Nat.{ℕ, zero, suc, _^_, _≤_, _<_}
 use native.Mathlib.Omega.{arith}
 use native.Mathlib.Nat.{lt-of-lt-of-le}
 use lib.Pow.{pow-mono}
-use lib.Dec.{eqb, ltb, leb}
+use lib.Dec.{ltb, leb}
 use lib.ListN.{getD, length}
-use borrow.Author.Tests.{eqb-true, ltb-true, leb-true}
+use borrow.Author.Tests.{ltb-true, leb-true}
 use Rattle.bits.specs.Bit.{bit, below}
 use Rattle.bits.proofs.Laws.{below-bits}
 use Rattle.beliefs.specs.declared.Marked.{Marked}
 use Rattle.beliefs.specs.Lists.{any, all, keep, empty, each}
-use Rattle.beliefs.specs.Stack.{Belief, Frame, on, own, said, permitted, granted, marked}
+use Rattle.beliefs.specs.Stack.{Belief, Frame, own, said, permitted, granted, called, marked}
 use Rattle.beliefs.specs.Engine.{inherited}
 use Rattle.beliefs.specs.Policy.{signers, targets, valid}
 use Rattle.beliefs.proofs.Policy.{both, ranges}
-use Rattle.beliefs.proofs.Lists.{any-map, any-ext, any-and, any-never, any-keep, any-append, each-at}
+use Rattle.beliefs.proofs.Lists.{any-append, each-at}
+use Rattle.beliefs.proofs.Granted.{any-not, own-called, inherited-called}
 use Rattle.beliefs.proofs.Chosen.{chosen, chosen-any}
 use Rattle.walk.specs.State.{depth, frameAt, framesAt, inUse, fits}
 use Rattle.walk.specs.Coherent.{Sound, Coherent, Pictures}
@@ -38,39 +39,25 @@ stand m st = record {
 
 -- what is handed: nothing of its own, and all that the caller would be granted
 handed-own : (t : ℕ) (st : List Frame) → any (own t) (handed st) ≡ false
-unfolding handed
+unfolding handed called
 handed-own t [] = refl
-handed-own t (f ∷ r) = any-map (own t) (said (f .principal)) (f .beliefs) ∙ any-never (λ b. on t b && false) (λ b. and-false (on t b)) (f .beliefs)
+handed-own t (f ∷ r) = own-called [] t 0 f r
 
 handed-inherited : (p : List ℕ) (t : ℕ) (st : List Frame) → any (inherited p t) (handed st) ≡ granted p t st
-unfolding handed granted
+unfolding handed called granted
 handed-inherited p t [] = refl
-handed-inherited p t (f ∷ r) = any-map (inherited p t) (said (f .principal)) (f .beliefs)
-
--- a test of the target passes through what is on t
-on-target : (d : ℕ → Bool) (t : ℕ) (x : Belief → Bool) (bs : List Belief) → any (λ b. on t b && x b) (keep (λ b. not (d (b .target))) bs) ≡ (not (d t) && any (λ b. on t b && x b) bs)
-on-target d t x bs =
-    any-keep (λ b. on t b && x b) (λ b. not (d (b .target))) bs
-    ∙ any-ext (λ b. not (d (b .target)) && (on t b && x b)) (λ b. not (d t) && (on t b && x b)) (λ b. same (b .target) (x b)) bs
-    ∙ any-and (not (d t)) (λ b. on t b && x b) bs
-  where
-    same : (g : ℕ) (y : Bool) → (not (d g) && (eqb g t && y)) ≡ (not (d t) && (eqb g t && y))
-    same g y = go (eqb g t) refl
-      where
-        go : (e : Bool) → eqb g t ≡ e → (not (d g) && (e && y)) ≡ (not (d t) && (e && y))
-        go true q = ap (λ (n : ℕ). not (d n) && y) (eqb-true g t q)
-        go false q = and-false (not (d g)) ∙ sym (and-false (not (d t)))
+handed-inherited p t (f ∷ r) = inherited-called p t 0 f r
 
 stand-sound : (p : List ℕ) (m : Marked) (st : List Frame) → m .enabled < 2 ^ 64 → Sound p (stand m st) st
 unfolding stand
 stand-sound p m st low = record {
   owns = λ t. any-append (own t) (chosen (λ t. []) (m .enabled) 64) _
-      ∙ ap₂ (λ (x y : Bool). x || y) (chosen-any (λ t. []) empty (m .enabled) t 64) (on-target (bit (m .disabled)) t (λ b. empty (b .chain)) (handed st) ∙ ap (λ (x : Bool). not (bit (m .disabled) t) && x) (handed-own t st) ∙ and-false (not (bit (m .disabled) t)))
+      ∙ ap₂ (λ (x y : Bool). x || y) (chosen-any (λ t. []) empty (m .enabled) t 64) (any-not (bit (m .disabled)) t (λ b. empty (b .chain)) (handed st) ∙ ap (λ (x : Bool). not (bit (m .disabled) t) && x) (handed-own t st) ∙ and-false (not (bit (m .disabled) t)))
       ∙ or-false _ ∙ ap (λ (x : Bool). ltb t 64 && x) (and-true (bit (m .enabled) t)) ∙ below-bits 64 (m .enabled) t low;
   inherits = λ t. any-append (inherited p t) (chosen (λ t. []) (m .enabled) 64) _
       ∙ ap₂ (λ (x y : Bool). x || y)
       (chosen-any (λ t. []) (λ c. not (empty c) && all (permitted p t) c) (m .enabled) t 64 ∙ ap (λ (x : Bool). ltb t 64 && x) (and-false (bit (m .enabled) t)) ∙ and-false (ltb t 64))
-      (on-target (bit (m .disabled)) t (λ b. not (empty (b .chain)) && all (permitted p t) (b .chain)) (handed st) ∙ ap (λ (x : Bool). not (bit (m .disabled) t) && x) (handed-inherited p t st));
+      (any-not (bit (m .disabled)) t (λ b. not (empty (b .chain)) && all (permitted p t) (b .chain)) (handed st) ∙ ap (λ (x : Bool). not (bit (m .disabled) t) && x) (handed-inherited p t st));
 }
 
 -- the stack of the k lowest frames

@@ -6,7 +6,8 @@ use mathlib.Core.Path.{_≡_, refl, _∙_}
 use Prim.Native.Nat.{_+_, _-_, _≤_}
 use lib.ListN.{length, length-set, replicate}
 use lib.Seq.{sets}
-use Rattle.derivation.proofs.Ours.{drops-next, put-next}
+use Rattle.beliefs.proofs.Lists.{put-next}
+use Rattle.derivation.proofs.Ours.{drops-next}
 use Rattle.derivation.proofs.put_drops.Statement.{statement}
 use Rattle.derivation.proofs.put_drops.Tie as tie
 

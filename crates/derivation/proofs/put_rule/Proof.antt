@@ -7,7 +7,8 @@ use Prim.Native.Nat.{_+_, _-_, _≤_}
 use lib.ListN.{length, length-set}
 use lib.Seq.{sets}
 use Rattle.beliefs.specs.Derivation.{atPlaces}
-use Rattle.derivation.proofs.Ours.{places-next, put-next}
+use Rattle.beliefs.proofs.Lists.{put-next}
+use Rattle.derivation.proofs.Ours.{places-next}
 use Rattle.derivation.proofs.put_rule.Statement.{statement}
 use Rattle.derivation.proofs.put_rule.Tie as tie
 

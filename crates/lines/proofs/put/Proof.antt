@@ -5,7 +5,7 @@ use mathlib.Core.Path.{_≡_, refl, sym, _∙_}
 use Prim.Native.Nat.{_+_, _-_, _≤_}
 use lib.ListN.{length, drop, length-set}
 use lib.Seq.{sets}
-use Rattle.lines.proofs.After.{turn, all-in}
+use Rattle.beliefs.proofs.Lists.{put-turn, put-end}
 use Rattle.lines.proofs.put.Statement.{statement}
 use Rattle.lines.proofs.put.Tie as tie
 
@@ -38,7 +38,7 @@ loop-again : tie.Need-loop-again Inv-loop μ-loop
 loop-again c =
     let at-loop = c .before .before .loop in
     let a = c .before .before .before .args in
-    let next = turn (at-loop .out) (a .text .now) (a .at) (at-loop .i) (c .before .loop-test .taken) in
+    let next = put-turn (at-loop .out) (a .text .now) (a .at) (at-loop .i) (c .before .loop-test .taken) in
     (omega arith, (simp length-set (at-loop .inv .1 .0), next ∙ at-loop .inv .1 .1))
 
 add-result : tie.Need-add-result Inv-loop μ-loop
@@ -53,7 +53,7 @@ returns c =
     let at-loop = c .before .loop in
     record {
       until = omega (arith, at-loop .inv .0);
-      buffer = sym (all-in (at-loop .out) (a .text .now) (a .at) (at-loop .i) (c .loop-test .left)) ∙ at-loop .inv .1 .1;
+      buffer = sym (put-end (at-loop .out) (a .text .now) (a .at) (at-loop .i) (c .loop-test .left)) ∙ at-loop .inv .1 .1;
     }
 
 pub put-spec : {M : Type 1} → statement M
