@@ -144,7 +144,10 @@ pub fn serve(policy: &[u64; 35], s: Passed, op: Operation) -> Next
         Operation::Enable(target) => Next::Stay(s.enable(target), DONE),
         Operation::Disable(target) => Next::Stay(s.disable(target), DONE),
         Operation::Revert(target) => Next::Stay(s.revert(target), DONE),
-        Operation::Check(target) => Next::Stay(s, beliefs::verdict_byte(s.check(policy, target), 0)),
+        Operation::Check(target) => Next::Stay(
+            s,
+            beliefs::verdict_byte(s.check(policy, target), 0),
+        ),
     }
 }
 

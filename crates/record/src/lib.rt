@@ -21,7 +21,11 @@ fn depth(state: &[u64; 4096]) -> u64
     ensures { λ r. ⌜ r ≡ depth (now (state .entry)) ⌝ }
 {
     let said = state[0];
-    if said < beliefs::DEPTH_MOST { said } else { beliefs::DEPTH_MOST }
+    if said < beliefs::DEPTH_MOST {
+        said
+    } else {
+        beliefs::DEPTH_MOST
+    }
 }
 
 // How many frames are below the newest.

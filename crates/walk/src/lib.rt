@@ -18,7 +18,11 @@ pub fn depth(state: &[u64; 190]) -> u64
     ensures { λ r. ⌜ r ≡ depth (now (state .entry)) ⌝ }
 {
     let said = state[0];
-    if said < beliefs::DEPTH_MOST { said } else { beliefs::DEPTH_MOST }
+    if said < beliefs::DEPTH_MOST {
+        said
+    } else {
+        beliefs::DEPTH_MOST
+    }
 }
 
 // The frame above k others: zeros where there is no room for one.
@@ -141,7 +145,11 @@ fn mark(state: &mut [u64; 190], op: Operation) -> Answer
 fn first_marks(policy: &[u64; 35], d: u64) -> u64
     ensures { λ r. ⌜ r ≡ cond (eqb d 0) (startMarks (now (policy .entry))) 0 ⌝ }
 {
-    if d == 0 { policy::start_marks(policy) } else { 0 }
+    if d == 0 {
+        policy::start_marks(policy)
+    } else {
+        0
+    }
 }
 
 // A new newest frame.
