@@ -260,7 +260,10 @@ static void make_rows(void)
 }
 
 // One call of one implementation, for the instruction counter.
-__attribute__((noinline)) void measured(const struct row *row, const struct maker *m, long times) { row->go(m, row->which, row->arg, times); }
+__attribute__((noinline)) void measured(const struct row *row, const struct maker *m, long times) {
+    row->go(m, row->which, row->arg, times);
+    __asm__ volatile("" ::: "memory"); // so that it returns itself, and the counter sees its end
+}
 
 static void count(void)
 {

@@ -27,7 +27,7 @@ fn moved(policy: &[u64; 35], s: Passed, word: u64, of: u8) -> Passed {
 fn result(policy: &[u64; 35], s: Passed, word: u64, of: u8) {
     tell::put(b' ');
     if word == CHECK {
-        tell::byte(passed::answer(s.check(policy, of)));
+        tell::byte(beliefs::verdict_byte(s.check(policy, of), 0));
         return;
     }
     let next = moved(policy, s, word, of);

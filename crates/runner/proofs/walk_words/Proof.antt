@@ -1,6 +1,6 @@
 -- The state pictures the stack that is reached, and the answers so far are the definition's (Going).
 use borrow.Author.Needs.{needs}
-use mathlib.Core.Path.{_≡_, refl}
+use mathlib.Core.Path.{_≡_, refl, sym, _∙_}
 use mathlib.Core.Bool.{true}
 use Prim.Native.Nat.{_+_, _-_, _*_, _/_, _%_, _≤_, _<_}
 use native.Mathlib.Omega.{arith}
@@ -9,7 +9,7 @@ use Rattle.beliefs.specs.Policy.{valid}
 use Rattle.walk.specs.Coherent.{Pictures}
 use Rattle.walk.proofs.Kept.{fresh}
 use Rattle.runner.proofs.Progress.{not-barred}
-use Rattle.runner.proofs.Going.{Going, start, over, bad-word, bad-op, onward}
+use Rattle.runner.proofs.Going.{Reads, Going, start, over, bad-word, bad-op, onward}
 use Rattle.runner.proofs.walk_words.Statement.{statement}
 use Rattle.runner.proofs.walk_words.Tie as tie
 
@@ -25,6 +25,12 @@ ready c = not-barred true (c .args .policy .now) (c .args .trace .now) (c .args 
 
 more : (c : tie.After-decode-at Inv-loop μ-loop) → 2 * c .before .before .loop .i + 1 < length (c .before .before .before .before .before .args .trace .now)
 more c = omega arith
+
+word : (c : tie.After-decoded Inv-loop μ-loop) → let turn = c .before .before .before .before in
+    Reads (turn .before .before .before .args .policy .now) (turn .before .before .before .args .trace .now) (turn .loop .i) (c .decoded .given .0 .0)
+word c =
+    let read = c .before .before in
+    record { more = more read; word = sym (c .decoded .given .1) ∙ read .decode-at .ensures; policy = ready (read .before .before .before .before .before) .0 }
 
 loop-holds : tie.Need-loop-holds Inv-loop μ-loop
 loop-holds c = (omega arith, refl, start _ _ _ _ _ _ (fresh _))
@@ -45,7 +51,9 @@ same-length : tie.Need-same-length Inv-loop μ-loop
 same-length c = c .before .before .before .before .before .loop .inv .1
 
 returns : tie.Need-returns Inv-loop μ-loop
-returns c = bad-word _ _ _ _ _ _ _ _ (c .before .before .before .before .before .loop .inv .2) (more (c .before .before .before)) _ (c .before .before .before .decode-at .ensures) _ _ (c .number .ensures) (c .before .enum-told .given .1)
+returns c =
+    let read = c .before .before .before in
+    bad-word _ _ _ _ _ _ _ _ (read .before .before .loop .inv .2) (more read) _ (read .decode-at .ensures) _ _ (c .number .ensures) (c .before .enum-told .given .1)
 
 serve-requires : tie.Need-serve-requires Inv-loop μ-loop
 serve-requires c κs = search needs
@@ -54,10 +62,15 @@ same-length-2 : tie.Need-same-length-2 Inv-loop μ-loop
 same-length-2 c = c .before .before .before .before .before .before .before .before .before .loop .inv .1
 
 returns-2 : tie.Need-returns-2 Inv-loop μ-loop
-returns-2 c = bad-op _ _ _ _ _ _ _ _ (c .before .before .before .before .before .before .before .before .before .loop .inv .2) (more (c .before .before .before .before .before .before .before)) _ (c .before .before .before .before .before .before .before .decode-at .ensures) (ready (c .before .before .before .before .before .before .before .before .before .before .before .before) .0) _ (c .before .before .before .before .before .decoded .given .1) _ _ _ (c .before .before .serve .ensures) (c .if1 .taken)
+returns-2 c =
+    let served = c .before .before in
+    let decoded = served .before .before .before in
+    bad-op _ _ _ _ _ _ _ _ (decoded .before .before .before .before .loop .inv .2) _ (word decoded) _ _ _ (served .serve .ensures) (c .if1 .taken)
 
 slice-write-answers : tie.Need-slice-write-answers Inv-loop μ-loop
-slice-write-answers c = omega (arith, ready (c .before .before .before .before .before .before .before .before .before .before .before .before), c .before .before .before .before .before .before .before .before .before .loop .inv .1)
+slice-write-answers c =
+    let turn = c .before .before .before .before .before .before .before .before .before in
+    omega (arith, ready (turn .before .before .before), turn .loop .inv .1)
 
 add-i : tie.Need-add-i Inv-loop μ-loop
 add-i c = search needs
@@ -66,7 +79,11 @@ loop-less : tie.Need-loop-less Inv-loop μ-loop
 loop-less c = search needs
 
 loop-again : tie.Need-loop-again Inv-loop μ-loop
-loop-again c = (omega arith, simp length-set (c .before .before .before .before .before .before .before .before .before .loop .inv .1), onward _ _ _ _ _ _ _ _ (c .before .before .before .before .before .before .before .before .before .loop .inv .2) (more (c .before .before .before .before .before .before .before)) _ (c .before .before .before .before .before .before .before .decode-at .ensures) (ready (c .before .before .before .before .before .before .before .before .before .before .before .before) .0) _ (c .before .before .before .before .before .decoded .given .1) _ _ _ (c .before .before .serve .ensures) (c .if1 .left))
+loop-again c =
+    let served = c .before .before in
+    let decoded = served .before .before .before in
+    let turn = decoded .before .before .before .before in
+    (omega arith, simp length-set (turn .loop .inv .1), onward _ _ _ _ _ _ _ _ (turn .loop .inv .2) _ (word decoded) _ _ _ (served .serve .ensures) (c .if1 .left))
 
 same-length-3 : tie.Need-same-length-3 Inv-loop μ-loop
 same-length-3 c = c .before .loop .inv .1
