@@ -1,7 +1,7 @@
 // The library, the Rust peer and the C peer on the same inputs, in one process.
 //   bench time PASSES ROUNDS [depths]   first the agreement; then a line `time NAME` for each row and, with `depths`, `depth ENGINE DEPTH` for each depth: the
 //                                       nanoseconds of library, Rust and C, the best of the rounds and then their median
-//   bench count                         a line `count NAME MAKER TIMES` for each row and implementation: `measured` was called for TIMES, then for twice as many
+//   bench count                         a line `count NAME MAKER TIMES` for each row and implementation, whose instructions were counted for TIMES, then for twice as many
 #define _POSIX_C_SOURCE 200809L
 #include "peer.h"
 
@@ -9,6 +9,7 @@
 #include <stdlib.h>
 #include <string.h>
 #include <time.h>
+#include <valgrind/callgrind.h>
 
 enum { WORDS = 16384, SIGNERS = 8, TARGETS = 40, COMMON = 24, STEPS = 3 * DEPTH_MOST + 1 };
 enum { CALL, RETURN, ENABLE, DISABLE, REVERT, CHECK };
@@ -259,10 +260,13 @@ static void make_rows(void)
         sprintf(add(go_judge, 0, lengths[n], 1)->name, "derivation-check-%d", lengths[n]);
 }
 
-// One call of one implementation, for the instruction counter.
-__attribute__((noinline)) void measured(const struct row *row, const struct maker *m, long times) {
+// Instructions: the counter sets out before a call, and writes what it counted after it.
+
+static void counted(const struct row *row, const struct maker *m, long times)
+{
+    CALLGRIND_ZERO_STATS;
     row->go(m, row->which, row->arg, times);
-    __asm__ volatile("" ::: "memory"); // so that it returns itself, and the counter sees its end
+    CALLGRIND_DUMP_STATS;
 }
 
 static void count(void)
@@ -270,8 +274,8 @@ static void count(void)
     for (int r = 0; r < row_count; r++)
         for (int m = 0; m < MAKERS; m++) {
             long times = rows[r].per > 1 ? 1 : 10;
-            measured(&rows[r], &makers[m], times);
-            measured(&rows[r], &makers[m], 2 * times);
+            counted(&rows[r], &makers[m], times);
+            counted(&rows[r], &makers[m], 2 * times);
             printf("count %s %s %.0f\n", rows[r].name, makers[m].name, rows[r].per * (double)times);
         }
 }
@@ -288,7 +292,7 @@ static double now(void)
 static double timed(const struct row *row, const struct maker *m, long times)
 {
     double began = now();
-    measured(row, m, times);
+    row->go(m, row->which, row->arg, times);
     return (now() - began) / ((double)times * row->per);
 }
 

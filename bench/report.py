@@ -1,4 +1,5 @@
-"""report.py OUT [DOCS]: from what bench/run left in OUT prints `ratio NAME VALUE` for each row, and writes DOCS/BENCHMARK.md and DOCS/check-time.svg."""
+"""report.py OUT [DOCS]: from what bench/run left in OUT prints `ratio NAME VALUE` for each row, and writes DOCS/BENCHMARK.md and DOCS/check-time.svg,
+with the processor in the names where it is not x86-64, the archive's."""
 import datetime
 import math
 import pathlib
@@ -67,13 +68,18 @@ def field(path, name, otherwise):
     return otherwise
 
 
+def processor():
+    said = subprocess.run(["lscpu"], stdout=subprocess.PIPE, text=True).stdout.splitlines()
+    return next((line.split(":", 1)[1].strip() for line in said if line.startswith("Model name")), "of an unknown kind")
+
+
 def machine():
     memory = int(field("/proc/meminfo", "MemTotal", "0 kB").split()[0]) / 2**20
     return [
         ("date", datetime.date.today().isoformat()),
-        ("processor", f"{field('/proc/cpuinfo', 'model name', platform.machine())}, {platform.machine()}"),
+        ("processor", f"{processor()}, {platform.machine()}"),
         ("memory", f"{memory:.0f} GiB"),
-        ("library", first_line("rt", "version")),
+        ("library", first_line("rt", "version") + COMPILED),
         ("Rust", first_line("rustc", "--version") + ", `-C opt-level=3`"),
         ("C", first_line("gcc", "--version") + ", `-O3`"),
         ("Java", first_line("java", "-version")),
@@ -116,6 +122,9 @@ def by_depth(best, java):
     return table(head, rows)
 
 
+# The archive is for x86-64; elsewhere it is the same bitcode, compiled for the processor that it runs on.
+SUFFIX, COMPILED = ("", "") if platform.machine() == "x86_64" else (f"-{platform.machine()}", ", its bitcode compiled for this processor")
+
 HOW = """# Benchmark
 
 Made by `make bench`. The library, a Rust peer (`bench/peer.rs`) and a plain C peer (`bench/peer.c`) answer the same inputs in one process.
@@ -140,7 +149,7 @@ DEPTHS = """## A check against depth
 One check with every refusal tested, in nanoseconds.
 {java}
 
-![check time against depth](check-time.svg)
+![check time against depth](check-time{suffix}.svg)
 
 """
 
@@ -155,7 +164,7 @@ def page(best, said, above, counts, java):
     text = HOW.format(agreed=f"{said['agreed']:,}", machine=facts, above=100 * above, rounds=f"{said['rounds']:,}")
     for title, names in titles():
         text += f"## {title}\n\n{comparison(names, best, counts)}\n"
-    return text + DEPTHS.format(java=JAVA if java else NO_JAVA) + by_depth(best, java)
+    return text + DEPTHS.format(java=JAVA if java else NO_JAVA, suffix=SUFFIX) + by_depth(best, java)
 
 
 # The plot: depth to the right, nanoseconds upwards. Java's walk and ours are far apart, so the scale is logarithmic.
@@ -226,8 +235,8 @@ def main(out, docs=None):
     series = {shown: {d: best[("walk", str(d))][m] for d in range(1, 64)} for m, shown in enumerate(("library", "Rust", "C"))}
     if java:
         series["Java"] = java
-    (docs / "BENCHMARK.md").write_text(page(best, said, above, instructions(out), java))
-    (docs / "check-time.svg").write_text(plot(series))
+    (docs / f"BENCHMARK{SUFFIX}.md").write_text(page(best, said, above, instructions(out), java))
+    (docs / f"check-time{SUFFIX}.svg").write_text(plot(series))
 
 
 if __name__ == "__main__":
