@@ -15,7 +15,9 @@ judge-requires : tie.Need-judge-requires
 judge-requires c κs = search needs
 
 returns-2 : tie.Need-returns-2
-returns-2 c = rw (check-judged (c .before .before .before .before .args .policy .now) (c .before .before .before .before .args .state .now) (c .before .before .before .before .args .target) (sym (c .before .before .barred .ensures) ∙ c .before .if1 .left) (c .before .before .before .before .args .steps .now)) (c .judge .ensures)
+returns-2 c =
+    let entry = c .before .before .before .before in
+    rw (check-judged (entry .args .policy .now) (entry .args .state .now) (entry .args .target) (sym (c .before .before .barred .ensures) ∙ c .before .if1 .left) (entry .args .steps .now)) (c .judge .ensures)
 
 pub check-spec : {M : Type 1} → statement M
 check-spec = tie.close (tie.spec barred-requires returns judge-requires returns-2)

@@ -36,7 +36,9 @@ drop-last-requires c κs = search needs
 
 returns-5 : tie.Need-returns-5
 unfolding follow
-returns-5 c = rw (ne-eqb _ _ (c .before .before .before .before .if1 .left), or-false (c .before .before .before .before .before .args .chain .taken), ne-eqb _ _ (c .before .before .before .if2 .left), ne-eqb _ _ (c .before .before .if3 .left), eq-eqb _ _ (c .before .if4 .left)) (c .drop-last .ensures .over _)
+returns-5 c =
+    let past-if1 = c .before .before .before .before in
+    rw (ne-eqb _ _ (past-if1 .if1 .left), or-false (past-if1 .before .args .chain .taken), ne-eqb _ _ (c .before .before .before .if2 .left), ne-eqb _ _ (c .before .before .if3 .left), eq-eqb _ _ (c .before .if4 .left)) (c .drop-last .ensures .over _)
 
 pub follow-spec : {M : Type 1} → statement M
 follow-spec =

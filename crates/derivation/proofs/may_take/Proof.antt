@@ -21,13 +21,19 @@ has-requires : tie.Need-has-requires
 has-requires c κs = search needs
 
 returns-3 : tie.Need-returns-3
-returns-3 c = rw (take-in (c .before .before .before .before .before .before .args .target) (c .before .before .before .before .before .before .args .n) (c .before .before .before .before .before .before .args .state .now) (c .before .before .before .before .before .if1 .left) (rw (c .before .before .before .before .depth .ensures) at (c .before .before .before .if2 .left)), ← c .before .before .frame-at .ensures, ← c .before .has .ensures, not-true (c .before .has .result) (c .if3 .taken))
+returns-3 c =
+    let at-depth = c .before .before .before .before in
+    let entry = at-depth .before .before in
+    rw (take-in (entry .args .target) (entry .args .n) (entry .args .state .now) (at-depth .before .if1 .left) (rw (at-depth .depth .ensures) at (c .before .before .before .if2 .left)), ← c .before .before .frame-at .ensures, ← c .before .has .ensures, not-true (c .before .has .result) (c .if3 .taken))
 
 none-disabled-requires : tie.Need-none-disabled-requires
 none-disabled-requires c κs = search needs
 
 returns-4 : tie.Need-returns-4
-returns-4 c = rw (take-in (c .before .before .before .before .before .before .before .args .target) (c .before .before .before .before .before .before .before .args .n) (c .before .before .before .before .before .before .before .args .state .now) (c .before .before .before .before .before .before .if1 .left) (rw (c .before .before .before .before .before .depth .ensures) at (c .before .before .before .before .if2 .left)), ← c .before .before .before .frame-at .ensures, ← c .before .before .has .ensures, not-false (c .before .before .has .result) (c .before .if3 .left)) (c .none-disabled .ensures)
+returns-4 c =
+    let past-if2 = c .before .before .before .before in
+    let past-if1 = past-if2 .before .before in
+    rw (take-in (past-if1 .before .args .target) (past-if1 .before .args .n) (past-if1 .before .args .state .now) (past-if1 .if1 .left) (rw (past-if2 .before .depth .ensures) at (past-if2 .if2 .left)), ← c .before .before .before .frame-at .ensures, ← c .before .before .has .ensures, not-false (c .before .before .has .result) (c .before .if3 .left)) (c .none-disabled .ensures)
 
 pub may-take-spec : {M : Type 1} → statement M
 may-take-spec =

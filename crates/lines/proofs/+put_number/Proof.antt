@@ -105,7 +105,9 @@ put-number-slice-write-out-2 : (t : ℕ) → put-number-lts.Need-slice-write-out
   put-number.Post,
 ) (put-number-at t) put-number.Post
 put-number-slice-write-out-2 t c =
-    let shorter = decimal-tenth (c .before .before .before .before .before .before .args .n) (omega arith) (c .before .before .before .before .if1 .left) in
+    let past-if1 = c .before .before .before .before in
+    let entry = past-if1 .before .before in
+    let shorter = decimal-tenth (entry .args .n) (omega arith) (past-if1 .if1 .left) in
     omega (arith, c .before .before .put-number .ensures .until)
 
 -- src/lib.rt:46:5
@@ -114,7 +116,9 @@ put-number-add-result-2 : (t : ℕ) → put-number-lts.Need-add-result-2 (
   put-number.Post,
 ) (put-number-at t) put-number.Post
 put-number-add-result-2 t c =
-    let shorter = decimal-tenth (c .before .before .before .before .before .before .args .n) (omega arith) (c .before .before .before .before .if1 .left) in
+    let past-if1 = c .before .before .before .before in
+    let entry = past-if1 .before .before in
+    let shorter = decimal-tenth (entry .args .n) (omega arith) (past-if1 .if1 .left) in
     omega (arith, c .before .before .put-number .ensures .until)
 
 -- src/lib.rt:36:1
@@ -130,7 +134,9 @@ put-number-returns-2 : (t : ℕ) → put-number-lts.Need-returns-2 (
   put-number.Post,
 ) (put-number-at t) put-number.Post
 put-number-returns-2 t c =
-    rw (decimal-more (c .before .before .before .before .before .before .args .n) (omega arith) (c .before .before .before .before .if1 .left)) (then (c .before .before .put-number .ensures) (one _ _ _))
+    let past-if1 = c .before .before .before .before in
+    let entry = past-if1 .before .before in
+    rw (decimal-more (entry .args .n) (omega arith) (past-if1 .if1 .left)) (then (c .before .before .put-number .ensures) (one _ _ _))
 
 pub +put-number-spec : {M : Type 1} → statement M
 +put-number-spec = close μ-put-number λ t. put-number-lts.spec (

@@ -16,13 +16,18 @@ slice-aggregate-deliver : tie.Need-slice-aggregate-deliver
 slice-aggregate-deliver c = search needs
 
 deliver-requires : tie.Need-deliver-requires
-deliver-requires c κs = omega (arith, c .before .before .before .put-check .ensures .until, check-short (c .before .before .before .before .before .before .args .index) (c .before .before .before .before .before .before .args .target) (c .before .before .before .before .before .before .args .answer))
+deliver-requires c κs =
+    let entry = c .before .before .before .before .before .before in
+    omega (arith, c .before .before .before .put-check .ensures .until, check-short (entry .args .index) (entry .args .target) (entry .args .answer))
 
 same-length : tie.Need-same-length
 same-length c = search needs
 
 returns : tie.Need-returns
-returns c = rw (carried (c .before .before .before .before .before .before .put-check .ensures) (check-short (c .before .before .before .before .before .before .before .before .before .args .index) (c .before .before .before .before .before .before .before .before .before .args .target) (c .before .before .before .before .before .before .before .before .before .args .answer))) at (c .before .before .deliver .ensures)
+returns c =
+    let at-put-check = c .before .before .before .before .before .before in
+    let entry = at-put-check .before .before .before in
+    rw (carried (at-put-check .put-check .ensures) (check-short (entry .args .index) (entry .args .target) (entry .args .answer))) at (c .before .before .deliver .ensures)
 
 pub check-line-spec : {M : Type 1} → statement M
 check-line-spec =

@@ -16,13 +16,18 @@ slice-aggregate-deliver : tie.Need-slice-aggregate-deliver
 slice-aggregate-deliver c = search needs
 
 deliver-requires : tie.Need-deliver-requires
-deliver-requires c κs = omega (arith, c .before .before .before .put-end .ensures .until, end-short (c .before .before .before .before .before .before .args .words))
+deliver-requires c κs =
+    let entry = c .before .before .before .before .before .before in
+    omega (arith, c .before .before .before .put-end .ensures .until, end-short (entry .args .words))
 
 same-length : tie.Need-same-length
 same-length c = search needs
 
 returns : tie.Need-returns
-returns c = rw (carried (c .before .before .before .before .before .before .put-end .ensures) (end-short (c .before .before .before .before .before .before .before .before .before .args .words))) at (c .before .before .deliver .ensures)
+returns c =
+    let at-put-end = c .before .before .before .before .before .before in
+    let entry = at-put-end .before .before .before in
+    rw (carried (at-put-end .put-end .ensures) (end-short (entry .args .words))) at (c .before .before .deliver .ensures)
 
 pub end-line-spec : {M : Type 1} → statement M
 end-line-spec =

@@ -33,10 +33,14 @@ words-run-requires : tie.Need-words-run-requires Inv-loop μ-loop
 words-run-requires c κs = search needs
 
 add-end : tie.Need-add-end Inv-loop μ-loop
-add-end c = omega (arith, c .words-run .ensures, run-most (c .before .before .before .before .args .trace .now) (c .before .before .before .before .args .report .figure))
+add-end c =
+    let entry = c .before .before .before .before in
+    omega (arith, c .words-run .ensures, run-most (entry .args .trace .now) (entry .args .report .figure))
 
 loop-holds : tie.Need-loop-holds Inv-loop μ-loop
-loop-holds c = (omega arith, (refl, (refl, begun (lineAt (c .before .before .before .before .args .policy .now) (c .before .before .before .before .args .trace .now) (c .before .before .before .before .args .answers .now) (c .before .before .before .before .args .report)) _ _ _)))
+loop-holds c =
+    let entry = c .before .before .before .before in
+    (omega arith, (refl, (refl, begun (lineAt (entry .args .policy .now) (entry .args .trace .now) (entry .args .answers .now) (entry .args .report)) _ _ _)))
 
 slice-aggregate-put-at : tie.Need-slice-aggregate-put-at Inv-loop μ-loop
 slice-aggregate-put-at c = search needs
@@ -51,7 +55,10 @@ same-length : tie.Need-same-length Inv-loop μ-loop
 same-length c = c .before .before .before .before .before .loop .inv .1 .0
 
 returns : tie.Need-returns Inv-loop μ-loop
-returns c = rw (← c .before .before .before .before .before .before .words-run .ensures) (full (lineAt (c .before .before .before .before .before .before .before .before .before .before .args .policy .now) (c .before .before .before .before .before .before .before .before .before .before .args .trace .now) (c .before .before .before .before .before .before .before .before .before .before .args .answers .now) (c .before .before .before .before .before .before .before .before .before .before .args .report)) (c .before .before .before .before .before .loop .inv .1 .1 .1) (omega (arith, c .if1 .taken, composed-at (c .before .before) .len, c .before .before .before .before .before .loop .inv .1 .0)))
+returns c =
+    let turn = c .before .before .before .before .before in
+    let entry = turn .before .before .before .before .before in
+    rw (← turn .before .words-run .ensures) (full (lineAt (entry .args .policy .now) (entry .args .trace .now) (entry .args .answers .now) (entry .args .report)) (turn .loop .inv .1 .1 .1) (omega (arith, c .if1 .taken, composed-at (c .before .before) .len, turn .loop .inv .1 .0)))
 
 array-share-prefix-line : tie.Need-array-share-prefix-line Inv-loop μ-loop
 array-share-prefix-line c = composed-at (c .before .before .before) .within
@@ -65,7 +72,11 @@ put-requires c κs =
     omega (arith, composed-at (c .before .before .before .before) .span, c .before .before .if1 .left, looped .loop .inv .0, looped .loop .inv .1 .0)
 
 add-next : tie.Need-add-next Inv-loop μ-loop
-add-next c = omega (arith, c .before .before .before .before .before .before .before .before .before .loop-test .taken, c .before .before .before .before .before .before .before .before .before .before .before .words-run .ensures, run-most (c .before .before .before .before .before .before .before .before .before .before .before .before .before .before .before .args .trace .now) (c .before .before .before .before .before .before .before .before .before .before .before .before .before .before .before .args .report .figure))
+add-next c =
+    let inside = c .before .before .before .before .before .before .before .before .before in
+    let at-words-run = inside .before .before in
+    let entry = at-words-run .before .before .before .before in
+    omega (arith, inside .loop-test .taken, at-words-run .words-run .ensures, run-most (entry .args .trace .now) (entry .args .report .figure))
 
 loop-less : tie.Need-loop-less Inv-loop μ-loop
 loop-less c = search needs
@@ -83,7 +94,9 @@ same-length-2 : tie.Need-same-length-2 Inv-loop μ-loop
 same-length-2 c = c .before .loop .inv .1 .0
 
 returns-2 : tie.Need-returns-2 Inv-loop μ-loop
-returns-2 c = rw (← c .before .before .words-run .ensures) (finished (lineAt (c .before .before .before .before .before .before .args .policy .now) (c .before .before .before .before .before .before .args .trace .now) (c .before .before .before .before .before .before .args .answers .now) (c .before .before .before .before .before .before .args .report)) (c .before .loop .inv .1 .1 .1) (c .loop-test .left))
+returns-2 c =
+    let entry = c .before .before .before .before .before .before in
+    rw (← c .before .before .words-run .ensures) (finished (lineAt (entry .args .policy .now) (entry .args .trace .now) (entry .args .answers .now) (entry .args .report)) (c .before .loop .inv .1 .1 .1) (c .loop-test .left))
 
 pub fill-spec : {M : Type 1} → statement M
 fill-spec =

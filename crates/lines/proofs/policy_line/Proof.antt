@@ -17,13 +17,18 @@ slice-aggregate-deliver : tie.Need-slice-aggregate-deliver
 slice-aggregate-deliver c = search needs
 
 deliver-requires : tie.Need-deliver-requires
-deliver-requires c κs = omega (arith, c .before .before .before .put-policy .ensures .until, policy-short (now (c .before .before .before .before .before .before .args .policy)))
+deliver-requires c κs =
+    let entry = c .before .before .before .before .before .before in
+    omega (arith, c .before .before .before .put-policy .ensures .until, policy-short (now (entry .args .policy)))
 
 same-length : tie.Need-same-length
 same-length c = search needs
 
 returns : tie.Need-returns
-returns c = rw (carried (c .before .before .before .before .before .before .put-policy .ensures) (policy-short (now (c .before .before .before .before .before .before .before .before .before .args .policy)))) at (c .before .before .deliver .ensures)
+returns c =
+    let at-put-policy = c .before .before .before .before .before .before in
+    let entry = at-put-policy .before .before .before in
+    rw (carried (at-put-policy .put-policy .ensures) (policy-short (now (entry .args .policy)))) at (c .before .before .deliver .ensures)
 
 pub policy-line-spec : {M : Type 1} → statement M
 policy-line-spec =

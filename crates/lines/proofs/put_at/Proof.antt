@@ -38,7 +38,10 @@ same-length-2 c = search needs
 
 returns-2 : tie.Need-returns-2
 unfolding lineAt
-returns-2 c = rw (ne-eqb _ _ (c .before .before .before .before .before .before .if1 .left), ← c .before .before .before .before .before .words-run .ensures, lt-ltb _ _ (c .before .before .before .before .if2 .taken)) (c .before .before .put-word .ensures)
+returns-2 c =
+    let past-if2 = c .before .before .before .before in
+    let past-if1 = past-if2 .before .before in
+    rw (ne-eqb _ _ (past-if1 .if1 .left), ← past-if2 .before .words-run .ensures, lt-ltb _ _ (past-if2 .if2 .taken)) (c .before .before .put-word .ensures)
 
 put-last-requires : tie.Need-put-last-requires
 put-last-requires c κs = search needs
@@ -48,7 +51,10 @@ same-length-3 c = search needs
 
 returns-3 : tie.Need-returns-3
 unfolding lineAt
-returns-3 c = rw (ne-eqb _ _ (c .before .before .before .before .before .before .if1 .left), ← c .before .before .before .before .before .words-run .ensures, le-ltb _ _ (c .before .before .before .before .if2 .left)) (c .before .before .put-last .ensures)
+returns-3 c =
+    let past-if2 = c .before .before .before .before in
+    let past-if1 = past-if2 .before .before in
+    rw (ne-eqb _ _ (past-if1 .if1 .left), ← past-if2 .before .words-run .ensures, le-ltb _ _ (past-if2 .if2 .left)) (c .before .before .put-last .ensures)
 
 pub put-at-spec : {M : Type 1} → statement M
 put-at-spec =

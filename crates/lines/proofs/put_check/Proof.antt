@@ -25,7 +25,11 @@ same-length c = search needs
 
 returns : tie.Need-returns
 unfolding checkLine
-returns c = then (then (then (c .before .before .before .before .before .before .before .before .before .before .before .before .before .before .put-item .ensures .0) (c .before .before .before .before .before .before .before .before .before .before .put-item2 .ensures .0)) (c .before .before .before .before .before .before .put-verdict .ensures .0)) (c .before .before .put-item3 .ensures .0)
+returns c =
+    let at-put-verdict = c .before .before .before .before .before .before in
+    let at-put-item2 = at-put-verdict .before .before .before .before in
+    let at-put-item = at-put-item2 .before .before .before .before in
+    then (then (then (at-put-item .put-item .ensures .0) (at-put-item2 .put-item2 .ensures .0)) (at-put-verdict .put-verdict .ensures .0)) (c .before .before .put-item3 .ensures .0)
 
 pub put-check-spec : {M : Type 1} → statement M
 put-check-spec =

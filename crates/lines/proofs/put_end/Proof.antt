@@ -19,7 +19,9 @@ same-length c = search needs
 
 returns : tie.Need-returns
 unfolding endLine
-returns c = then (c .before .before .before .before .before .before .put .ensures) (c .before .before .put-item .ensures .0)
+returns c =
+    let at-put = c .before .before .before .before .before .before in
+    then (at-put .put .ensures) (c .before .before .put-item .ensures .0)
 
 pub put-end-spec : {M : Type 1} → statement M
 put-end-spec =

@@ -35,8 +35,11 @@ same-length c = search needs
 returns : tie.Need-returns
 unfolding policyLine
 returns c =
-    rw (← c .before .before .before .is-full .ensures, ← c .before .before .before .before .before .before .before .before .targets .ensures, ← c .before .before .before .before .before .before .before .before .before .before .before .before .before .signers .ensures)
-    (then (then (then (c .before .before .before .before .before .before .before .before .before .before .before .before .before .before .before .before .before .put .ensures) (c .before .before .before .before .before .before .before .before .before .before .before .before .put-item .ensures .0)) (c .before .before .before .before .before .before .before .put-item2 .ensures .0)) (c .before .before .put-start .ensures))
+    let at-put-item2 = c .before .before .before .before .before .before .before in
+    let at-put-item = at-put-item2 .before .before .before .before .before in
+    let at-put = at-put-item .before .before .before .before .before in
+    rw (← c .before .before .before .is-full .ensures, ← at-put-item2 .before .targets .ensures, ← at-put-item .before .signers .ensures)
+    (then (then (then (at-put .put .ensures) (at-put-item .put-item .ensures .0)) (at-put-item2 .put-item2 .ensures .0)) (c .before .before .put-start .ensures))
 
 pub put-policy-spec : {M : Type 1} → statement M
 put-policy-spec =

@@ -22,7 +22,10 @@ same-length c = search needs
 
 returns : tie.Need-returns
 unfolding refusedLine
-returns c = then (then (c .before .before .before .before .before .before .before .before .before .before .put .ensures) (c .before .before .before .before .before .before .put-item .ensures .0)) (c .before .before .put-item2 .ensures .0)
+returns c =
+    let at-put-item = c .before .before .before .before .before .before in
+    let at-put = at-put-item .before .before .before .before in
+    then (then (at-put .put .ensures) (at-put-item .put-item .ensures .0)) (c .before .before .put-item2 .ensures .0)
 
 pub put-refused-spec : {M : Type 1} → statement M
 put-refused-spec =

@@ -33,7 +33,9 @@ mul-word : tie.Need-mul-word
 mul-word c = omega (arith, c .before .shared-slice-known3 .given (2 * c .before .before .before .before .before .args .index))
 
 add-word : tie.Need-add-word
-add-word c = omega (arith, c .before .shared-slice-known3 .given (2 * c .before .before .before .before .before .args .index), c .shared-slice-known4 .given (2 * c .before .before .before .before .before .args .index + 1))
+add-word c =
+    let entry = c .before .before .before .before .before in
+    omega (arith, c .before .shared-slice-known3 .given (2 * entry .args .index), c .shared-slice-known4 .given (2 * entry .args .index + 1))
 
 returns : tie.Need-returns
 unfolding wordLine
@@ -53,7 +55,9 @@ same-length c = search needs
 
 returns-2 : tie.Need-returns-2
 unfolding wordLine
-returns-2 c = rw (eq-eqb _ _ (c .before .before .before .before .before .if1 .left), ← c .before .before .before .before .answer-at .ensures) (c .before .before .put-check .ensures)
+returns-2 c =
+    let at-answer-at = c .before .before .before .before in
+    rw (eq-eqb _ _ (at-answer-at .before .if1 .left), ← at-answer-at .answer-at .ensures) (c .before .before .put-check .ensures)
 
 pub put-word-spec : {M : Type 1} → statement M
 put-word-spec =

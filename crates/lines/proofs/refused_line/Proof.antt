@@ -16,13 +16,18 @@ slice-aggregate-deliver : tie.Need-slice-aggregate-deliver
 slice-aggregate-deliver c = search needs
 
 deliver-requires : tie.Need-deliver-requires
-deliver-requires c κs = omega (arith, c .before .before .before .put-refused .ensures .until, refused-short (c .before .before .before .before .before .before .args .number) (c .before .before .before .before .before .before .args .index))
+deliver-requires c κs =
+    let entry = c .before .before .before .before .before .before in
+    omega (arith, c .before .before .before .put-refused .ensures .until, refused-short (entry .args .number) (entry .args .index))
 
 same-length : tie.Need-same-length
 same-length c = search needs
 
 returns : tie.Need-returns
-returns c = rw (carried (c .before .before .before .before .before .before .put-refused .ensures) (refused-short (c .before .before .before .before .before .before .before .before .before .args .number) (c .before .before .before .before .before .before .before .before .before .args .index))) at (c .before .before .deliver .ensures)
+returns c =
+    let at-put-refused = c .before .before .before .before .before .before in
+    let entry = at-put-refused .before .before .before in
+    rw (carried (at-put-refused .put-refused .ensures) (refused-short (entry .args .number) (entry .args .index))) at (c .before .before .deliver .ensures)
 
 pub refused-line-spec : {M : Type 1} → statement M
 refused-line-spec =

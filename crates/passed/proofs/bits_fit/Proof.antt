@@ -12,9 +12,10 @@ returns c = rw (← c .before .fits2 .ensures, not-true (c .before .fits2 .resul
 
 returns-2 : tie.Need-returns-2
 returns-2 c =
+    let at-fits2 = c .before .before .before .before in
     rw (
-      ← c .before .before .before .before .fits2 .ensures,
-      not-false (c .before .before .before .before .fits2 .result) (c .before .before .before .if1 .left),
+      ← at-fits2 .fits2 .ensures,
+      not-false (at-fits2 .fits2 .result) (c .before .before .before .if1 .left),
       eq-eqb _ _ (c .before .if2 .taken),
     )
 
@@ -23,9 +24,10 @@ fits-requires-2 c κs = search needs
 
 returns-3 : tie.Need-returns-3
 returns-3 c =
+    let at-fits2 = c .before .before .before .before in
     rw (
-      ← c .before .before .before .before .fits2 .ensures,
-      not-false (c .before .before .before .before .fits2 .result) (c .before .before .before .if1 .left),
+      ← at-fits2 .fits2 .ensures,
+      not-false (at-fits2 .fits2 .result) (c .before .before .before .if1 .left),
       ne-eqb _ _ (c .before .if2 .left),
     )
     (c .fits3 .ensures)

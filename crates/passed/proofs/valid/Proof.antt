@@ -38,10 +38,12 @@ bits-fit-requires c κs = search needs
 returns-4 : tie.Need-returns-4
 unfolding passedFits
 returns-4 c =
+    let at-signers = c .before .before .before .before in
+    let past-if1 = at-signers .before .before .before in
     rw (
-      ne-eqb _ _ (c .before .before .before .before .before .before .before .if1 .left),
-      le-leb _ _ (c .before .before .before .before .before .if2 .left),
-      ← c .before .before .before .before .signers .ensures,
+      ne-eqb _ _ (past-if1 .if1 .left),
+      le-leb _ _ (at-signers .before .if2 .left),
+      ← at-signers .signers .ensures,
       lt-ltb _ _ (c .before .before .if3 .left),
       ← c .before .targets .ensures,
     )

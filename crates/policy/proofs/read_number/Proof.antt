@@ -25,9 +25,10 @@ past : (c : tie.After-size)
     (cond (all (λ w. below w n) (rowsOf rows (width n) (drop 2 bs))) 0 bitSet))
 unfolding readNumber
 past c =
+    let at-header = c .before .before .before .before in
     rw (
-      le-ltb _ _ (c .before .before .before .before .before .if1 .left),
-      ← c .before .before .before .before .header .ensures,
+      le-ltb _ _ (at-header .before .if1 .left),
+      ← at-header .header .ensures,
       eq-eqb _ _ (c .before .before .before .if2 .left),
       ← c .before .before .head-signers .ensures,
       ← c .before .head-targets .ensures,

@@ -18,7 +18,9 @@ returns : tie.Need-returns
 returns c = c .start .ensures ∙ handed-first _ _ (sym (c .before .before .before .depth .ensures) ∙ c .before .before .if1 .taken)
 
 returns-2 : tie.Need-returns-2
-returns-2 c = c .hand-down .ensures ∙ handed-down (c .before .before .before .before .before .args .policy .now) (c .before .before .before .before .before .args .state .now) (λ e. c .before .before .if1 .left (c .before .before .before .depth .ensures ∙ e))
+returns-2 c =
+    let entry = c .before .before .before .before .before in
+    c .hand-down .ensures ∙ handed-down (entry .args .policy .now) (entry .args .state .now) (λ e. c .before .before .if1 .left (c .before .before .before .depth .ensures ∙ e))
 
 pub begin-spec : {M : Type 1} → statement M
 begin-spec =

@@ -48,10 +48,12 @@ done-requires c κs = search needs
 returns-2 : tie.Need-returns-2
 unfolding callIn
 returns-2 c =
-    let s : List ℕ = c .before .before .before .before .before .before .args .state .now in
-    let g : ℕ = c .before .before .before .before .before .before .args .signer in
+    let at-depth = c .before .before .before .before in
+    let entry = at-depth .before .before in
+    let s : List ℕ = entry .args .state .now in
+    let g : ℕ = entry .args .signer in
     rw (lt-ltb (depth s) 63 (omega arith))
-    (gives (c .done .ensures) (ap₂ (λ (l : List ℕ) (d : ℕ). set (set l (65 * d + 1) g) 0 (d + 1)) (c .before .begin .ensures) (c .before .before .before .before .depth .ensures)))
+    (gives (c .done .ensures) (ap₂ (λ (l : List ℕ) (d : ℕ). set (set l (65 * d + 1) g) 0 (d + 1)) (c .before .begin .ensures) (at-depth .depth .ensures)))
 
 pub call-spec : {M : Type 1} → statement M
 call-spec =

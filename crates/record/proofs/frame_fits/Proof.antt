@@ -36,9 +36,10 @@ words-below-requires c κs = search needs
 returns-2 : tie.Need-returns-2
 unfolding frameFits
 returns-2 c =
+    let at-signer = c .before .before .before .before in
     rw (
-      ← c .before .before .before .before .before .signers .ensures,
-      ← c .before .before .before .before .signer .ensures,
+      ← at-signer .before .signers .ensures,
+      ← at-signer .signer .ensures,
       lt-ltb _ _ (c .before .before .before .if1 .left),
       ← c .before .before .words .ensures,
       ← c .before .words-below .ensures,
@@ -54,10 +55,12 @@ words-below-requires-2 c κs = search needs
 returns-3 : tie.Need-returns-3
 unfolding frameFits
 returns-3 c =
+    let past-if1 = c .before .before .before .before in
+    let at-signers = past-if1 .before .before in
     rw (
-      ← c .before .before .before .before .before .before .signers .ensures,
-      ← c .before .before .before .before .before .signer .ensures,
-      lt-ltb _ _ (c .before .before .before .before .if1 .left),
+      ← at-signers .signers .ensures,
+      ← past-if1 .before .signer .ensures,
+      lt-ltb _ _ (past-if1 .if1 .left),
       ← c .before .before .before .words .ensures,
       ← c .before .before .words-below .ensures,
       not-false (c .before .before .words-below .result) (c .before .if2 .left),

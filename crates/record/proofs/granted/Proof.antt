@@ -22,17 +22,23 @@ abbrev μ-loop : tie.MeasureT-loop
 
 -- what the callees say of the frame and the length that are tried: the test of the word of the bit is the test of the bit
 is-permitted : (c : tie.After-meet Inv-loop μ-loop)
-    → c .meet .result
-    ≡ permits (c .before .before .before .before .before .before .before .before .args .policy .now) (signerAt (c .before .before .before .before .before .before .before .before .args .state .now) (depth (c .before .before .before .before .before .before .before .before .args .state .now) - 1 - c .before .before .before .before .loop .k)) (c .before .before .before .before .before .before .before .before .args .target)
+    → let turn = c .before .before .before .before in
+    let a = turn .before .before .before .before .args in
+    c .meet .result ≡ permits (a .policy .now) (signerAt (a .state .now) (depth (a .state .now) - 1 - turn .loop .k)) (a .target)
 unfolding permits
 is-permitted c =
-    rw (← c .before .before .before .before .before .before .depth .ensures, ← c .before .before .signer .ensures)
-    (c .meet .ensures .alone _ (c .before .before .before .before .before .before .before .with .ensures) ∙ ap (λ (w : ℕ). bit w (c .before .before .before .before .before .before .before .before .args .target)) (c .before .row .ensures))
+    let at-depth = c .before .before .before .before .before .before in
+    let entry = at-depth .before .before in
+    rw (← at-depth .depth .ensures, ← c .before .before .signer .ensures)
+    (c .meet .ensures .alone _ (at-depth .before .with .ensures) ∙ ap (λ (w : ℕ). bit w (entry .args .target)) (c .before .row .ensures))
 
 is-held : (c : tie.After-has Inv-loop μ-loop)
-    → c .has .result
-    ≡ bit (held (c .before .before .before .before .before .before .before .before .before .before .args .state .now) (c .before .before .before .before .before .before .before .before .before .before .args .target)) (c .before .before .before .before .before .before .loop .k)
-is-held c = rw (← c .before .before .before .before .before .before .before .held .ensures) (c .has .ensures)
+    → let turn = c .before .before .before .before .before .before in
+    let a = turn .before .before .before .before .args in
+    c .has .result ≡ bit (held (a .state .now) (a .target)) (turn .loop .k)
+is-held c =
+    let at-held = c .before .before .before .before .before .before .before in
+    rw (← at-held .held .ensures) (c .has .ensures)
 
 with-requires : tie.Need-with-requires Inv-loop μ-loop
 with-requires c κs = search needs
@@ -72,10 +78,11 @@ has-requires c κs = search needs
 
 returns-2 : tie.Need-returns-2 Inv-loop μ-loop
 returns-2 c =
+    let turn = c .before .before .before .before .before .before .before in
     sym
     (tried-found _ _ _ _
     (omega arith)
-    (c .before .before .before .before .before .before .before .loop .inv .1 .0)
+    (turn .loop .inv .1 .0)
     (sym (is-permitted (c .before .before .before)) ∙ not-false _ (c .before .before .if1 .left))
     (sym (is-held (c .before)) ∙ c .if2 .taken))
 
@@ -86,13 +93,14 @@ loop-less : tie.Need-loop-less Inv-loop μ-loop
 loop-less c = search needs
 
 loop-again : tie.Need-loop-again Inv-loop μ-loop
-loop-again c = (
-  omega arith,
-  (
-    each-more _ _ (c .before .before .before .before .before .before .before .loop .inv .1 .0) (sym (is-permitted (c .before .before .before)) ∙ not-false _ (c .before .before .if1 .left)),
-    below-more _ _ (c .before .before .before .before .before .before .before .loop .inv .1 .1) (sym (is-held (c .before)) ∙ c .if2 .left),
-  ),
-)
+loop-again c =
+    let turn = c .before .before .before .before .before .before .before in (
+      omega arith,
+      (
+        each-more _ _ (turn .loop .inv .1 .0) (sym (is-permitted (c .before .before .before)) ∙ not-false _ (c .before .before .if1 .left)),
+        below-more _ _ (turn .loop .inv .1 .1) (sym (is-held (c .before)) ∙ c .if2 .left),
+      ),
+    )
 
 returns-3 : tie.Need-returns-3 Inv-loop μ-loop
 returns-3 c = sym (tried-none _ _ _ (λ i l. c .before .loop .inv .1 .1 i (omega arith)))

@@ -59,8 +59,9 @@ loop-again c = (filled-more _ _ _ _ _ _ (c .before .before .loop .inv .0) (ap lo
 
 returns : tie.Need-returns Inv-loop μ-loop
 returns c =
+    let entry = c .before .before .before .before in
     let e : c .before .loop .t ≡ 64 = omega arith in
-    rw e at (c .before .loop .inv .0) ∙ one-longer (c .before .before .before .before .args .state .now) _ (c .before .before .newest .ensures) (c .before .before .before .before .pre .0)
+    rw e at (c .before .loop .inv .0) ∙ one-longer (entry .args .state .now) _ (c .before .before .newest .ensures) (entry .pre .0)
 
 pub hand-down-spec : {M : Type 1} → statement M
 hand-down-spec =

@@ -48,10 +48,11 @@ done-requires-2 c κs = search needs
 returns-3 : tie.Need-returns-3
 unfolding holdIn
 returns-3 c =
+    let past-if1 = c .before .before .before .before in
     rw (
       ← c .before .newest .ensures,
-      ← c .before .before .before .before .before .depth .ensures,
-      ne-eqb _ _ (c .before .before .before .before .if1 .left),
+      ← past-if1 .before .depth .ensures,
+      ne-eqb _ _ (past-if1 .if1 .left),
       lt-ltb _ 64 (c .before .before .before .if2 .left),
     )
     (gives (c .done2 .ensures) refl)

@@ -35,8 +35,10 @@ done-requires c κs = search needs
 returns-2 : tie.Need-returns-2
 unfolding returnIn
 returns-2 c =
-    rw (ne-eqb (depth (c .before .before .before .before .before .before .args .state .now)) 0 (λ e. c .before .before .before .if1 .left (c .before .before .before .before .depth .ensures ∙ e)))
-    (gives (c .done .ensures) (ap₂ (λ (l : List ℕ) (d : ℕ). set l 0 (d - 1)) (c .before .clear .ensures) (c .before .before .before .before .depth .ensures)))
+    let at-depth = c .before .before .before .before in
+    let entry = at-depth .before .before in
+    rw (ne-eqb (depth (entry .args .state .now)) 0 (λ e. c .before .before .before .if1 .left (at-depth .depth .ensures ∙ e)))
+    (gives (c .done .ensures) (ap₂ (λ (l : List ℕ) (d : ℕ). set l 0 (d - 1)) (c .before .clear .ensures) (at-depth .depth .ensures)))
 
 pub leave-spec : {M : Type 1} → statement M
 leave-spec =

@@ -14,12 +14,17 @@ use Rattle.record.proofs.operate.Tie as tie
 policy-valid : (c : tie.Else1) → valid (c .before .before .args .policy .now) ≡ true
 policy-valid c = sym (c .before .valid .ensures) ∙ not-false _ (c .if1 .left)
 
-state-fits : (c : tie.Else2) → recordFits (c .before .before .before .before .before .args .policy .now) (c .before .before .before .before .before .args .state .now) ≡ true
+state-fits : (c : tie.Else2)
+    → let a = c .before .before .before .before .before .args in
+    recordFits (a .policy .now) (a .state .now) ≡ true
 state-fits c = sym (c .before .valid2 .ensures) ∙ not-false _ (c .if2 .left)
 
-word-decoded : (c : tie.After-decode) → c .decode .result
-    ≡ decoded (signers (c .before .before .before .before .before .before .before .before .args .policy .now)) (targets (c .before .before .before .before .before .before .before .before .args .policy .now)) (c .before .before .before .before .before .before .before .before .args .word) 0
-word-decoded c = c .decode .ensures ∙ ap₂ (λ (s n : ℕ). decoded s n (c .before .before .before .before .before .before .before .before .args .word) 0) (c .before .before .signers .ensures) (c .before .targets .ensures)
+word-decoded : (c : tie.After-decode)
+    → let a = c .before .before .before .before .before .before .before .before .args in
+    c .decode .result ≡ decoded (signers (a .policy .now)) (targets (a .policy .now)) (a .word) 0
+word-decoded c =
+    let entry = c .before .before .before .before .before .before .before .before in
+    c .decode .ensures ∙ ap₂ (λ (s n : ℕ). decoded s n (entry .args .word) 0) (c .before .before .signers .ensures) (c .before .targets .ensures)
 
 valid-requires : tie.Need-valid-requires
 valid-requires c κs = search needs
@@ -52,16 +57,29 @@ number-requires : tie.Need-number-requires
 number-requires c κs = search needs
 
 returns-3 : tie.Need-returns-3
-returns-3 c = rw (c .number .ensures ∙ ap numberOf (c .before .enum-told .given .1)) (bad-word _ _ _ _ _ _ _ _ (policy-valid (c .before .before .before .before .before .before .before .before .before)) (state-fits (c .before .before .before .before .before .before)) _ (word-decoded (c .before .before .before)) _ (c .before .enum-told .given .1))
+returns-3 c =
+    let past-if2 = c .before .before .before .before .before .before in
+    let past-if1 = past-if2 .before .before .before in
+    rw (c .number .ensures ∙ ap numberOf (c .before .enum-told .given .1)) (bad-word _ _ _ _ _ _ _ _ (policy-valid (past-if1)) (state-fits (past-if2)) _ (word-decoded (c .before .before .before)) _ (c .before .enum-told .given .1))
 
 serve-requires : tie.Need-serve-requires
 serve-requires c κs = search needs
 
 returns-4 : tie.Need-returns-4
-returns-4 c = done-word _ _ _ _ _ _ _ _ (policy-valid (c .before .before .before .before .before .before .before .before .before .before .before .before .before)) (state-fits (c .before .before .before .before .before .before .before .before .before .before)) _ (word-decoded (c .before .before .before .before .before .before .before)) _ (c .before .before .before .before .before .decoded .given .1) _ _ (c .before .before .serve .ensures) _ (rw (eq-eqb _ _ (c .if3 .taken)))
+returns-4 c =
+    let at-decoded = c .before .before .before .before .before in
+    let at-decode = at-decoded .before .before in
+    let past-if2 = at-decode .before .before .before in
+    let past-if1 = past-if2 .before .before .before in
+    done-word _ _ _ _ _ _ _ _ (policy-valid (past-if1)) (state-fits (past-if2)) _ (word-decoded (at-decode)) _ (at-decoded .decoded .given .1) _ _ (c .before .before .serve .ensures) _ (rw (eq-eqb _ _ (c .if3 .taken)))
 
 returns-5 : tie.Need-returns-5
-returns-5 c = done-word _ _ _ _ _ _ _ _ (policy-valid (c .before .before .before .before .before .before .before .before .before .before .before .before .before)) (state-fits (c .before .before .before .before .before .before .before .before .before .before)) _ (word-decoded (c .before .before .before .before .before .before .before)) _ (c .before .before .before .before .before .decoded .given .1) _ _ (c .before .before .serve .ensures) _ (rw (ne-eqb _ _ (c .if3 .left)))
+returns-5 c =
+    let at-decoded = c .before .before .before .before .before in
+    let at-decode = at-decoded .before .before in
+    let past-if2 = at-decode .before .before .before in
+    let past-if1 = past-if2 .before .before .before in
+    done-word _ _ _ _ _ _ _ _ (policy-valid (past-if1)) (state-fits (past-if2)) _ (word-decoded (at-decode)) _ (at-decoded .decoded .given .1) _ _ (c .before .before .serve .ensures) _ (rw (ne-eqb _ _ (c .if3 .left)))
 
 pub operate-spec : {M : Type 1} → statement M
 operate-spec =

@@ -53,22 +53,36 @@ check-requires : tie.Need-check-requires
 check-requires c κs = search needs
 
 returns : tie.Need-returns
-returns c = promised (c .before .before .before .before .before .before .before .args .policy .now) (c .before .before .before .before .before .before .before .args .state .now) (search needs) _ _ _ (rw (c .before .before .before .op .given .1) (c .call .ensures))
+returns c =
+    let entry = c .before .before .before .before .before .before .before in
+    promised (entry .args .policy .now) (entry .args .state .now) (search needs) _ _ _ (rw (c .before .before .before .op .given .1) (c .call .ensures))
 
 returns-2 : tie.Need-returns-2
-returns-2 c = promised (c .before .before .before .before .before .before .args .policy .now) (c .before .before .before .before .before .before .args .state .now) (search needs) _ _ _ (rw (c .before .before .enum-told .given .1) (c .leave .ensures))
+returns-2 c =
+    let entry = c .before .before .before .before .before .before in
+    promised (entry .args .policy .now) (entry .args .state .now) (search needs) _ _ _ (rw (c .before .before .enum-told .given .1) (c .leave .ensures))
 
 returns-3 : tie.Need-returns-3
-returns-3 c = promised (c .before .before .before .before .before .before .before .before .before .before .args .policy .now) (c .before .before .before .before .before .before .before .before .before .before .args .state .now) (search needs) _ _ _ (rw (c .before .before .before .before .before .before .op2 .given .1, ← c .before .before .held .ensures, ← c .before .with .ensures) (c .hold .ensures))
+returns-3 c =
+    let at-op2 = c .before .before .before .before .before .before in
+    let entry = at-op2 .before .before .before .before in
+    promised (entry .args .policy .now) (entry .args .state .now) (search needs) _ _ _ (rw (at-op2 .op2 .given .1, ← c .before .before .held .ensures, ← c .before .with .ensures) (c .hold .ensures))
 
 returns-4 : tie.Need-returns-4
-returns-4 c = promised (c .before .before .before .before .before .before .before .args .policy .now) (c .before .before .before .before .before .before .before .args .state .now) (search needs) _ _ _ (rw (c .before .before .before .op3 .given .1) (c .hold2 .ensures))
+returns-4 c =
+    let entry = c .before .before .before .before .before .before .before in
+    promised (entry .args .policy .now) (entry .args .state .now) (search needs) _ _ _ (rw (c .before .before .before .op3 .given .1) (c .hold2 .ensures))
 
 returns-5 : tie.Need-returns-5
-returns-5 c = promised (c .before .before .before .before .before .before .before .before .before .before .args .policy .now) (c .before .before .before .before .before .before .before .before .before .before .args .state .now) (search needs) _ _ _ (rw (c .before .before .before .before .before .before .op4 .given .1, ← c .before .before .held2 .ensures, ← c .before .without .ensures) (c .hold3 .ensures))
+returns-5 c =
+    let at-op4 = c .before .before .before .before .before .before in
+    let entry = at-op4 .before .before .before .before in
+    promised (entry .args .policy .now) (entry .args .state .now) (search needs) _ _ _ (rw (at-op4 .op4 .given .1, ← c .before .before .held2 .ensures, ← c .before .without .ensures) (c .hold3 .ensures))
 
 returns-6 : tie.Need-returns-6
-returns-6 c = promised (c .before .before .before .before .before .before .before .args .policy .now) (c .before .before .before .before .before .before .before .args .state .now) (search needs) _ _ _ (rw (c .before .before .before .op5 .given .1) (c .check .ensures))
+returns-6 c =
+    let entry = c .before .before .before .before .before .before .before in
+    promised (entry .args .policy .now) (entry .args .state .now) (search needs) _ _ _ (rw (c .before .before .before .op5 .given .1) (c .check .ensures))
 
 pub serve-spec : {M : Type 1} → statement M
 serve-spec =

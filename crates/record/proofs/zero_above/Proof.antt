@@ -18,8 +18,8 @@ abbrev μ-loop : tie.MeasureT-loop
 
 -- the room from the frame on is the frame, and the room from the next on
 and-next : (c : tie.After-words-below Inv-loop μ-loop)
-    → wordsBelow (c .before .before .before .before .args .state .now) (65 * depth (c .before .before .before .before .args .state .now) + 1) 4096 0
-    ≡ (c .words-below .result && wordsBelow (c .before .before .before .before .args .state .now) (65 * (c .before .before .loop .frame + 1) + 1) 4096 0)
+    → let a = c .before .before .before .before .args in
+    wordsBelow (a .state .now) (65 * depth (a .state .now) + 1) 4096 0 ≡ (c .words-below .result && wordsBelow (a .state .now) (65 * (c .before .before .loop .frame + 1) + 1) 4096 0)
 and-next c =
     let s = c .before .before .before .before .args .state .now in
     let at = 65 * c .before .before .loop .frame + 1 in

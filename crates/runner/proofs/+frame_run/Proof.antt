@@ -85,7 +85,9 @@ enum-known-next : (t : ℕ) → frame-run-lts.Need-enum-known-next (claims t) (f
 enum-known-next t c = search needs
 
 same-length-2 : (t : ℕ) → frame-run-lts.Need-same-length-2 (claims t) (frame-run-at t) frame-run.Post Inv-loop μ-loop
-same-length-2 t c = c .before .before .before .before .before .before .before .before .before .loop .inv .0
+same-length-2 t c =
+    let turn = c .before .before .before .before .before .before .before .before .before in
+    turn .loop .inv .0
 
 returns-2 : (t : ℕ) → frame-run-lts.Need-returns-2 (claims t) (frame-run-at t) frame-run.Post Inv-loop μ-loop
 returns-2 t c =
@@ -105,7 +107,9 @@ add-t22 : (t : ℕ) → frame-run-lts.Need-add-t22 (claims t) (frame-run-at t) f
 add-t22 t c = search needs
 
 same-length-3 : (t : ℕ) → frame-run-lts.Need-same-length-3 (claims t) (frame-run-at t) frame-run.Post Inv-loop μ-loop
-same-length-3 t c = simp length-set (c .before .before .before .before .before .before .before .before .loop .inv .0)
+same-length-3 t c =
+    let turn = c .before .before .before .before .before .before .before .before in
+    simp length-set (turn .loop .inv .0)
 
 returns-3 : (t : ℕ) → frame-run-lts.Need-returns-3 (claims t) (frame-run-at t) frame-run.Post Inv-loop μ-loop
 returns-3 t c =

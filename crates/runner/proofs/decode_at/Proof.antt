@@ -39,7 +39,9 @@ mul-decode : tie.Need-mul-decode
 mul-decode c = omega (arith, c .before .before .before .shared-slice-known2 .given (2 * c .before .before .before .before .before .args .index))
 
 add-decode : tie.Need-add-decode
-add-decode c = omega (arith, c .before .before .before .shared-slice-known2 .given (2 * c .before .before .before .before .before .args .index), c .before .before .shared-slice-known3 .given (2 * c .before .before .before .before .before .args .index + 1))
+add-decode c =
+    let entry = c .before .before .before .before .before in
+    omega (arith, c .before .before .before .shared-slice-known2 .given (2 * entry .args .index), c .before .before .shared-slice-known3 .given (2 * entry .args .index + 1))
 
 decode-requires : tie.Need-decode-requires
 decode-requires c κs = search needs

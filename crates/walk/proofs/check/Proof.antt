@@ -19,15 +19,27 @@ abbrev μ-loop : tie.MeasureT-loop
 μ-loop policy state target asked left₀ looked₀ left looked = left
 
 -- each test of the word of the bit is the test of the bit
-permitted : (c : tie.After-meet Inv-loop μ-loop) → c .meet .result ≡ permits (c .before .before .before .before .before .before .before .args .policy .now) (c .before .before .frame-at .result .signer) (c .before .before .before .before .before .before .before .args .target)
+permitted : (c : tie.After-meet Inv-loop μ-loop)
+    → let a = c .before .before .before .before .before .before .before .args in
+    c .meet .result ≡ permits (a .policy .now) (c .before .before .frame-at .result .signer) (a .target)
 unfolding permits
-permitted c = c .meet .ensures .alone _ (c .before .before .before .before .before .before .with .ensures) ∙ ap (λ (w : ℕ). bit w (c .before .before .before .before .before .before .before .args .target)) (c .before .row .ensures)
+permitted c =
+    let at-with = c .before .before .before .before .before .before in
+    c .meet .ensures .alone _ (at-with .with .ensures) ∙ ap (λ (w : ℕ). bit w (at-with .before .args .target)) (c .before .row .ensures)
 
-enabled-here : (c : tie.After-meet2 Inv-loop μ-loop) → c .meet2 .result ≡ bit (c .before .before .before .before .frame-at .result .enabled) (c .before .before .before .before .before .before .before .before .before .args .target)
-enabled-here c = c .meet2 .ensures .alone _ (c .before .before .before .before .before .before .before .before .with .ensures)
+enabled-here : (c : tie.After-meet2 Inv-loop μ-loop)
+    → let a = c .before .before .before .before .before .before .before .before .before .args in
+    c .meet2 .result ≡ bit (c .before .before .before .before .frame-at .result .enabled) (a .target)
+enabled-here c =
+    let at-with = c .before .before .before .before .before .before .before .before in
+    c .meet2 .ensures .alone _ (at-with .with .ensures)
 
-disabled-here : (c : tie.After-meet3 Inv-loop μ-loop) → c .meet3 .result ≡ bit (c .before .before .before .before .before .before .frame-at .result .disabled) (c .before .before .before .before .before .before .before .before .before .before .before .args .target)
-disabled-here c = c .meet3 .ensures .alone _ (c .before .before .before .before .before .before .before .before .before .before .with .ensures)
+disabled-here : (c : tie.After-meet3 Inv-loop μ-loop)
+    → let a = c .before .before .before .before .before .before .before .before .before .before .before .args in
+    c .meet3 .result ≡ bit (c .before .before .before .before .before .before .frame-at .result .disabled) (a .target)
+disabled-here c =
+    let at-with = c .before .before .before .before .before .before .before .before .before .before in
+    c .meet3 .ensures .alone _ (at-with .with .ensures)
 
 with-requires : tie.Need-with-requires Inv-loop μ-loop
 with-requires c κs = search needs
@@ -63,19 +75,32 @@ loop-less : tie.Need-loop-less Inv-loop μ-loop
 loop-less c = search needs
 
 loop-again : tie.Need-loop-again Inv-loop μ-loop
-loop-again c = (omega arith, onward _ _ _ _ _ _ (c .before .before .before .before .before .before .before .before .before .loop .inv .1) (c .before .before .before .before .before .before .before .before .if1 .left) _ (c .before .before .before .before .before .before .before .frame-at .ensures) (sym (permitted (c .before .before .before .before .before)) ∙ not-false _ (c .before .before .before .before .if2 .left)) (sym (enabled-here (c .before .before .before)) ∙ c .before .before .if3 .left) (sym (disabled-here (c .before)) ∙ c .if4 .left))
+loop-again c =
+    let past-if2 = c .before .before .before .before in
+    let at-frame-at = past-if2 .before .before .before in
+    let turn = at-frame-at .before .before in
+    (omega arith, onward _ _ _ _ _ _ (turn .loop .inv .1) (at-frame-at .before .if1 .left) _ (at-frame-at .frame-at .ensures) (sym (permitted (past-if2 .before)) ∙ not-false _ (past-if2 .if2 .left)) (sym (enabled-here (c .before .before .before)) ∙ c .before .before .if3 .left) (sym (disabled-here (c .before)) ∙ c .if4 .left))
 
 returns : tie.Need-returns Inv-loop μ-loop
 returns c = bottom _ _ _ _ _ _ (c .before .loop .inv .1) (c .if1 .taken)
 
 returns-2 : tie.Need-returns-2 Inv-loop μ-loop
-returns-2 c = barred _ _ _ _ _ _ (c .before .before .before .before .before .loop .inv .1) (c .before .before .before .before .if1 .left) _ (c .before .before .before .frame-at .ensures) (sym (permitted (c .before)) ∙ not-true _ (c .if2 .taken))
+returns-2 c =
+    let past-if1 = c .before .before .before .before in
+    barred _ _ _ _ _ _ (past-if1 .before .loop .inv .1) (past-if1 .if1 .left) _ (c .before .before .before .frame-at .ensures) (sym (permitted (c .before)) ∙ not-true _ (c .if2 .taken))
 
 returns-3 : tie.Need-returns-3 Inv-loop μ-loop
-returns-3 c = enabled _ _ _ _ _ _ (c .before .before .before .before .before .before .before .loop .inv .1) (c .before .before .before .before .before .before .if1 .left) _ (c .before .before .before .before .before .frame-at .ensures) (sym (permitted (c .before .before .before)) ∙ not-false _ (c .before .before .if2 .left)) (sym (enabled-here (c .before)) ∙ c .if3 .taken)
+returns-3 c =
+    let at-frame-at = c .before .before .before .before .before in
+    let turn = at-frame-at .before .before in
+    enabled _ _ _ _ _ _ (turn .loop .inv .1) (at-frame-at .before .if1 .left) _ (at-frame-at .frame-at .ensures) (sym (permitted (c .before .before .before)) ∙ not-false _ (c .before .before .if2 .left)) (sym (enabled-here (c .before)) ∙ c .if3 .taken)
 
 returns-4 : tie.Need-returns-4 Inv-loop μ-loop
-returns-4 c = disabled _ _ _ _ _ _ (c .before .before .before .before .before .before .before .before .before .loop .inv .1) (c .before .before .before .before .before .before .before .before .if1 .left) _ (c .before .before .before .before .before .before .before .frame-at .ensures) (sym (permitted (c .before .before .before .before .before)) ∙ not-false _ (c .before .before .before .before .if2 .left)) (sym (enabled-here (c .before .before .before)) ∙ c .before .before .if3 .left) (sym (disabled-here (c .before)) ∙ c .if4 .taken)
+returns-4 c =
+    let past-if2 = c .before .before .before .before in
+    let at-frame-at = past-if2 .before .before .before in
+    let turn = at-frame-at .before .before in
+    disabled _ _ _ _ _ _ (turn .loop .inv .1) (at-frame-at .before .if1 .left) _ (at-frame-at .frame-at .ensures) (sym (permitted (past-if2 .before)) ∙ not-false _ (past-if2 .if2 .left)) (sym (enabled-here (c .before .before .before)) ∙ c .before .before .if3 .left) (sym (disabled-here (c .before)) ∙ c .if4 .taken)
 
 pub check-spec : {M : Type 1} → statement M
 check-spec =

@@ -33,10 +33,12 @@ frame-at-requires c κs = search needs
 
 returns : tie.Need-returns Inv-loop μ-loop
 returns c =
-    let a = c .before .before .before .before .before .before .before .args in
-    let k = c .before .before .before .before .loop .k in
-    let bad : inUse (a .policy .now) (a .state .now) k ≡ false = not-in-use _ _ k (rw (← c .before .before .before .before .before .before .signers .ensures, ← c .before .before .frame-at .ensures) (c .if1 .taken)) in
-    let l : k < depth (a .state .now) = rw (← c .before .before .before .before .before .depth .ensures) (c .before .before .before .loop-test .taken) in
+    let turn = c .before .before .before .before in
+    let at-signers = turn .before .before in
+    let a = at-signers .before .args in
+    let k = turn .loop .k in
+    let bad : inUse (a .policy .now) (a .state .now) k ≡ false = not-in-use _ _ k (rw (← at-signers .signers .ensures, ← c .before .before .frame-at .ensures) (c .if1 .taken)) in
+    let l : k < depth (a .state .now) = rw (← turn .before .depth .ensures) (c .before .before .before .loop-test .taken) in
     sym (each-false _ _ k l bad)
 
 add-k : tie.Need-add-k Inv-loop μ-loop
@@ -47,11 +49,14 @@ loop-less c = search needs
 
 loop-again : tie.Need-loop-again Inv-loop μ-loop
 loop-again c =
-    let a = c .before .before .before .before .before .before .before .before .before .args in
-    let s = c .before .before .before .before .before .before .loop in
-    let m = c .before .before .before .before .frame-at in (
-      rw (m .ensures) (one-in-use (a .policy .now) (a .state .now) (s .k) (s .marks) (c .before .before .before .before .before .before .loop .inv .0)
-          (rw (← c .before .before .before .before .before .before .before .before .signers .ensures, ← c .before .before .before .before .frame-at .ensures) (c .before .before .if1 .left))),
+    let at-frame-at = c .before .before .before .before in
+    let turn = at-frame-at .before .before in
+    let at-signers = turn .before .before in
+    let a = at-signers .before .args in
+    let s = turn .loop in
+    let m = at-frame-at .frame-at in (
+      rw (m .ensures) (one-in-use (a .policy .now) (a .state .now) (s .k) (s .marks) (turn .loop .inv .0)
+          (rw (← at-signers .signers .ensures, ← at-frame-at .frame-at .ensures) (c .before .before .if1 .left))),
       omega arith,
     )
 
@@ -63,8 +68,9 @@ fits-requires c κs = search needs
 
 returns-2 : tie.Need-returns-2 Inv-loop μ-loop
 returns-2 c =
-    let e : c .before .before .before .loop .k ≡ c .before .before .before .before .depth .result = omega arith in
-    c .fits2 .ensures ∙ rw (← e ∙ c .before .before .before .before .depth .ensures, c .before .targets .ensures) (sym (c .before .before .before .loop .inv .0))
+    let at-depth = c .before .before .before .before in
+    let e : c .before .before .before .loop .k ≡ at-depth .depth .result = omega arith in
+    c .fits2 .ensures ∙ rw (← e ∙ at-depth .depth .ensures, c .before .targets .ensures) (sym (c .before .before .before .loop .inv .0))
 
 pub frames-fit-spec : {M : Type 1} → statement M
 frames-fit-spec =

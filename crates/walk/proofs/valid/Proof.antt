@@ -49,10 +49,11 @@ all-fit-requires c κs = search needs
 returns-3 : tie.Need-returns-3
 unfolding fits
 returns-3 c =
+    let at-frames-fit = c .before .before .before .before in
     rw (
-      le-leb _ _ (c .before .before .before .before .before .if1 .left),
-      ← c .before .before .before .before .frames-fit .ensures,
-      not-false (c .before .before .before .before .frames-fit .result) (c .before .before .before .if2 .left),
+      le-leb _ _ (at-frames-fit .before .if1 .left),
+      ← at-frames-fit .frames-fit .ensures,
+      not-false (at-frames-fit .frames-fit .result) (c .before .before .before .if2 .left),
       ← c .before .before .depth .ensures,
     )
     (c .all-fit .ensures ∙ room-above _ _ (search needs) (omega arith))
