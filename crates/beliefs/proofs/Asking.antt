@@ -70,13 +70,9 @@ module _ (p : List ℕ) where
       ∙ sym (granted-split p t g s)
 
   -- an operation that does the same to both
-  both-ways : (q k x y : Bool) → (q && x) ≡ (q && y) → (q && (k && x)) ≡ (q && (k && y))
-  both-ways true k x y e = ap (λ (z : Bool). k && z) e
-  both-ways false k x y e = refl
-
-  either-way : (q k x y : Bool) → (q && x) ≡ (q && y) → (q && (k || x)) ≡ (q && (k || y))
-  either-way true k x y e = ap (λ (z : Bool). k || z) e
-  either-way false k x y e = refl
+  under : (q : Bool) (g : Bool → Bool) (x y : Bool) → (q && x) ≡ (q && y) → (q && g x) ≡ (q && g y)
+  under true g x y e = ap g e
+  under false g x y e = refl
 
   idle : (q k x y : Bool) → q ≡ false → (q && (k || x)) ≡ (q && y)
   idle true k x y e = cc
@@ -87,7 +83,7 @@ module _ (p : List ℕ) where
     unfolding disable
     disable-alike = record {
       same = h .same;
-      owns = λ t. ap (λ (x : Bool). permitted p t (f .principal) && x) (own-disable u t f) ∙ both-ways (permitted p t (f .principal)) (not (eqb u t)) _ _ (h .owns t) ∙ sym (ap (λ (x : Bool). permitted p t (f .principal) && x) (own-disable u t g));
+      owns = λ t. ap (λ (x : Bool). permitted p t (f .principal) && x) (own-disable u t f) ∙ under (permitted p t (f .principal)) (λ x. not (eqb u t) && x) _ _ (h .owns t) ∙ sym (ap (λ (x : Bool). permitted p t (f .principal) && x) (own-disable u t g));
       inherits = λ t. inherited-disable u t f p ∙ ap (λ (x : Bool). not (eqb u t) && x) (h .inherits t) ∙ sym (inherited-disable u t g p);
     }
 
@@ -95,7 +91,7 @@ module _ (p : List ℕ) where
     unfolding revert
     revert-alike = record {
       same = h .same;
-      owns = λ t. ap (λ (x : Bool). permitted p t (f .principal) && x) (own-revert u t f) ∙ both-ways (permitted p t (f .principal)) (not (eqb u t)) _ _ (h .owns t) ∙ sym (ap (λ (x : Bool). permitted p t (f .principal) && x) (own-revert u t g));
+      owns = λ t. ap (λ (x : Bool). permitted p t (f .principal) && x) (own-revert u t f) ∙ under (permitted p t (f .principal)) (λ x. not (eqb u t) && x) _ _ (h .owns t) ∙ sym (ap (λ (x : Bool). permitted p t (f .principal) && x) (own-revert u t g));
       inherits = λ t. inherited-revert u t f p ∙ h .inherits t ∙ sym (inherited-revert u t g p);
     }
 
@@ -108,7 +104,7 @@ module _ (p : List ℕ) where
     unfolding enable
     enable-alike true q = record {
       same = h .same;
-      owns = λ t. ap (λ (x : Bool). permitted p t (f .principal) && x) (own-enable u t f) ∙ either-way (permitted p t (f .principal)) (eqb u t) _ _ (h .owns t) ∙ sym (ap (λ (x : Bool). permitted p t (f .principal) && x) (own-enable u t g));
+      owns = λ t. ap (λ (x : Bool). permitted p t (f .principal) && x) (own-enable u t f) ∙ under (permitted p t (f .principal)) (λ x. eqb u t || x) _ _ (h .owns t) ∙ sym (ap (λ (x : Bool). permitted p t (f .principal) && x) (own-enable u t g));
       inherits = λ t. inherited-enable u t f p ∙ h .inherits t ∙ sym (inherited-enable u t g p);
     }
     enable-alike false q = record {

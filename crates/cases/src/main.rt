@@ -59,6 +59,7 @@ fn line(text: &[u8]) {
     obey(&text[bar + 1..]);
 }
 
+// Each line with what became of it.
 fn lines(text: &[u8]) {
     let mut at: usize = 0;
     while at < text.len() {

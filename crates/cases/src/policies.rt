@@ -12,6 +12,7 @@ pub fn document() -> [u64; 35] {
     policy
 }
 
+// A value's words. Lent to a function of its own, an array that was written to is known to be 35 words long.
 fn value_told(policy: &[u64; 35]) {
     tell::words(policy);
 }

@@ -58,6 +58,7 @@ fn put_item(out: &mut [u8], at: usize, n: u64, end: u8) -> usize
     last + 1
 }
 
+// The start by its name, which ends the policy's line.
 fn put_start(out: &mut [u8], at: usize, full: bool) -> usize
     requires { ⌜ at + 6 ≤ length (now out) ⌝ }
     ensures { λ r. ⌜ Puts (now (out .entry)) (now (out .exit)) at r (start full) ⌝ }
@@ -69,6 +70,7 @@ fn put_start(out: &mut [u8], at: usize, full: bool) -> usize
     }
 }
 
+// The verdict by its name.
 fn put_verdict(out: &mut [u8], at: usize, granted: bool) -> usize
     requires { ⌜ at + 10 ≤ length (now out) ⌝ }
     ensures { λ r. ⌜ Puts (now (out .entry)) (now (out .exit)) at r (verdict granted) ⌝ }
@@ -81,6 +83,7 @@ fn put_verdict(out: &mut [u8], at: usize, granted: bool) -> usize
     }
 }
 
+// The policy's line; this and the lines below go to the front of a buffer with room for any line.
 fn put_policy(policy: &[u64; 35], line: &mut [u8]) -> usize
     requires { ⌜ 80 ≤ length (now line) ⌝ }
     ensures { λ r. ⌜ Puts (now (line .entry)) (now (line .exit)) 0 r (policyLine (now (policy .entry))) ⌝ }
@@ -91,6 +94,7 @@ fn put_policy(policy: &[u64; 35], line: &mut [u8]) -> usize
     put_start(line, at, policy::is_full(policy))
 }
 
+// A check's line.
 fn put_check(index: usize, target: u8, answer: u8, line: &mut [u8]) -> usize
     requires { ⌜ 80 ≤ length (now line) ⌝ }
     ensures { λ r. ⌜ Puts (now (line .entry)) (now (line .exit)) 0 r (checkLine index target answer) ⌝ }
@@ -101,6 +105,7 @@ fn put_check(index: usize, target: u8, answer: u8, line: &mut [u8]) -> usize
     put_item(line, at, (answer % 64) as u64, b'\n')
 }
 
+// The last line where every word was run.
 fn put_end(words: u64, line: &mut [u8]) -> usize
     requires { ⌜ 80 ≤ length (now line) ⌝ }
     ensures { λ r. ⌜ Puts (now (line .entry)) (now (line .exit)) 0 r (endLine words) ⌝ }
@@ -109,6 +114,7 @@ fn put_end(words: u64, line: &mut [u8]) -> usize
     put_item(line, at, words, b'\n')
 }
 
+// The last line where a word, or all of it, was refused.
 fn put_refused(number: u8, index: u64, line: &mut [u8]) -> usize
     requires { ⌜ 80 ≤ length (now line) ⌝ }
     ensures { λ r. ⌜ Puts (now (line .entry)) (now (line .exit)) 0 r (refusedLine number index) ⌝ }
@@ -203,6 +209,7 @@ fn put_word(trace: &[u8], answers: &[u8], index: usize, line: &mut [u8]) -> usiz
     put_check(index, target, answer_at(answers, index), line)
 }
 
+// The last line, by a run's report.
 fn put_last(report: Report, line: &mut [u8]) -> usize
     requires { ⌜ 80 ≤ length (now line) ⌝ }
     ensures { λ r. ⌜ Puts (now (line .entry)) (now (line .exit)) 0 r (lastLine (report .number) (report .figure)) ⌝ }

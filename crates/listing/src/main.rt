@@ -12,6 +12,7 @@ fn more_follows() -> bool {
     io::read_full(STDIN_FILENO, &mut next) != 0
 }
 
+// The only line of an input that is refused as a whole.
 fn print_refused(number: u8) {
     let mut line = [0u8; lines::LINE_MOST];
     let len = lines::refused_line(number, 0, &mut line);
@@ -42,6 +43,7 @@ fn print_run(policy: &[u64; 35], trace: &[u8]) {
     print_pages(policy, trace, &answers, report);
 }
 
+// The policy, and where it is accepted the run of the trace after it.
 fn print_listing(input: &[u8]) {
     let mut policy = [0u64; 35];
     let cut = policy::cut(input);

@@ -3,16 +3,22 @@ use borrow.Author.Needs.{needs}
 use native.Mathlib.Omega.{arith}
 use denote.Ref.{now}
 use mathlib.Core.Path.{sym}
+use Prim.Native.Nat.{_≤_}
+use lib.ListN.{length}
 use lib.Seq.{length-take-le}
 use Rattle.listing.proofs.Cut.{cut-most}
 use Rattle.listing.proofs.print_listing.Statement.{statement}
 use Rattle.listing.proofs.print_listing.Tie as tie
 
+-- it is cut within it
+cut-in : (c : tie.After-cut) → c .cut .result ≤ length (now (c .before .before .args .input))
+cut-in c = rw (c .cut .ensures) (cut-most (now (c .before .before .args .input)))
+
 cut-requires : tie.Need-cut-requires
 cut-requires c κs = search needs
 
 slice-aggregate-read : tie.Need-slice-aggregate-read
-slice-aggregate-read c = sym (length-take-le _ _ (rw (c .before .cut .ensures) (cut-most (now (c .before .before .before .args .input)))))
+slice-aggregate-read c = sym (length-take-le _ _ (cut-in (c .before)))
 
 read-requires : tie.Need-read-requires
 read-requires c κs = search needs
@@ -24,13 +30,13 @@ returns : tie.Need-returns
 returns c = search needs
 
 sub-print-run : tie.Need-sub-print-run
-sub-print-run c = omega (arith, c .before .before .before .before .before .cut .ensures, cut-most (now (c .before .before .before .before .before .before .before .args .input)))
+sub-print-run c = omega (arith, cut-in (c .before .before .before .before .before))
 
 part-print-run-start : tie.Need-part-print-run-start
-part-print-run-start c = omega (arith, c .before .before .before .before .before .cut .ensures, cut-most (now (c .before .before .before .before .before .before .before .args .input)))
+part-print-run-start c = omega (arith, cut-in (c .before .before .before .before .before))
 
 part-print-run-end : tie.Need-part-print-run-end
-part-print-run-end c = omega (arith, c .before .before .before .before .before .cut .ensures, cut-most (now (c .before .before .before .before .before .before .before .args .input)))
+part-print-run-end c = omega (arith, cut-in (c .before .before .before .before .before))
 
 print-run-requires : tie.Need-print-run-requires
 print-run-requires c κs = search needs

@@ -5,7 +5,7 @@ use Prim.Native.Nat.{_-_}
 use lib.ListN.{length}
 use Rattle.lines.specs.Page.{lineAt, places}
 use Rattle.lines.proofs.Pages.{filled-falls}
-use Rattle.lines.proofs.Within.{filled-front}
+use Rattle.lines.proofs.Within.{Front, filled-front}
 use Rattle.listing.proofs.print_pages.Statement.{statement}
 use Rattle.listing.proofs.print_pages.Tie as tie
 
@@ -14,6 +14,13 @@ Inv-loop policy trace answers report page₀ place₀ page place = length page �
 
 abbrev μ-loop : tie.MeasureT-loop
 μ-loop policy trace answers report page₀ place₀ page place = places trace report - place
+
+-- the page just filled, as a slice of it asks
+page-front : (c : tie.After-fill Inv-loop μ-loop) → Front (c .fill .result .len) (c .fill .last .1 .1 .1 .1 .1 .0)
+page-front c =
+    let turn = c .before .before in
+    let a = turn .before .before .before .before .args in
+    filled-front (lineAt (a .policy .now) (a .trace .now) (a .answers .now) (a .report)) (turn .loop .place) (places (a .trace .now) (a .report) - turn .loop .place) (c .fill .ensures)
 
 large-buffer-requires : tie.Need-large-buffer-requires Inv-loop μ-loop
 large-buffer-requires c κs = search needs
@@ -31,10 +38,10 @@ returns : tie.Need-returns Inv-loop μ-loop
 returns c = search needs
 
 array-share-prefix-page : tie.Need-array-share-prefix-page Inv-loop μ-loop
-array-share-prefix-page c = filled-front (lineAt (c .before .before .before .before .before .before .before .before .before .args .policy .now) (c .before .before .before .before .before .before .before .before .before .args .trace .now) (c .before .before .before .before .before .before .before .before .before .args .answers .now) (c .before .before .before .before .before .before .before .before .before .args .report)) (c .before .before .before .before .before .loop .place) (places (c .before .before .before .before .before .before .before .before .before .args .trace .now) (c .before .before .before .before .before .before .before .before .before .args .report) - c .before .before .before .before .before .loop .place) (c .before .before .before .fill .ensures) .within
+array-share-prefix-page c = page-front (c .before .before .before) .within
 
 slice-aggregate-write-all : tie.Need-slice-aggregate-write-all Inv-loop μ-loop
-slice-aggregate-write-all c = filled-front (lineAt (c .before .before .before .before .before .before .before .before .before .before .args .policy .now) (c .before .before .before .before .before .before .before .before .before .before .args .trace .now) (c .before .before .before .before .before .before .before .before .before .before .args .answers .now) (c .before .before .before .before .before .before .before .before .before .before .args .report)) (c .before .before .before .before .before .before .loop .place) (places (c .before .before .before .before .before .before .before .before .before .before .args .trace .now) (c .before .before .before .before .before .before .before .before .before .before .args .report) - c .before .before .before .before .before .before .loop .place) (c .before .before .before .before .fill .ensures) .span
+slice-aggregate-write-all c = page-front (c .before .before .before .before) .span
 
 write-all-requires : tie.Need-write-all-requires Inv-loop μ-loop
 write-all-requires c κs = search needs
@@ -44,8 +51,10 @@ returns-2 c = search needs
 
 loop-less : tie.Need-loop-less Inv-loop μ-loop
 loop-less c =
-    let a = c .before .before .before .before .before .before .before .before .before .before .before .before .args in
-    filled-falls (lineAt (a .policy .now) (a .trace .now) (a .answers .now) (a .report)) (c .before .before .before .before .before .before .before .before .loop .place) (places (a .trace .now) (a .report)) (c .before .before .before .before .before .before .fill .ensures) (c .before .before .before .if1 .left)
+    let filled = c .before .before .before .before .before .before in
+    let turn = filled .before .before in
+    let a = turn .before .before .before .before .args in
+    filled-falls (lineAt (a .policy .now) (a .trace .now) (a .answers .now) (a .report)) (turn .loop .place) (places (a .trace .now) (a .report)) (filled .fill .ensures) (c .before .before .before .if1 .left)
 
 loop-again : tie.Need-loop-again Inv-loop μ-loop
 loop-again c = search needs
