@@ -3,8 +3,11 @@ use mathlib.Core.Path.{_≡_, refl}
 use mathlib.Core.Bool.{true}
 use mathlib.Core.Option.{Option·elim}
 use mathlib.Core.List.{List, [], _∷_, map}
-use Prim.Native.Nat.{ℕ}
+use Prim.Native.Nat.{ℕ, _+_, _*_}
+use lib.ListN.{replicate}
 use Rattle.bits.specs.Bit.{bit, withBit, withoutBit, below, lowest}
+use Rattle.beliefs.specs.declared.Operation.{Operation}
+use Rattle.beliefs.specs.declared.Operation.the-variants.{Call, Return, Enable, Disable, Revert, Check}
 use Rattle.beliefs.specs.Lists.{each}
 use Rattle.beliefs.specs.Account.{Account, told}
 use Rattle.beliefs.specs.Policy.{permits, rowFits, valid, mirrored, rowOf, rowsOf, valueRead}
@@ -40,6 +43,21 @@ policy first = first ∷ 0x10 ∷ 0xC0 ∷ 0x80 ∷ 0x00 ∷ []
 
 abbrev A : List ℕ
 A = 0x00 ∷ 0x00 ∷ 0x40 ∷ 0x00 ∷ 0x01 ∷ 0x00 ∷ 0xA0 ∷ 0x00 ∷ 0xA0 ∷ 0x04 ∷ 0x60 ∷ 0x00 ∷ 0xA0 ∷ 0x00 ∷ 0x80 ∷ 0x00 ∷ 0xA0 ∷ 0x00 ∷ 0x20 ∷ 0x00 ∷ 0xA0 ∷ 0x00 ∷ []
+
+-- "empty start, S = 3, N = 2; signer 0 permitted both targets, signer 1 target 0, signer 2 none"
+pub policy-says : valueRead (policy 0x08) ≡ (0 ∷ 3 ∷ 2 ∷ 0b11 ∷ 0b01 ∷ 0b00 ∷ replicate 29 0)
+unfolding valueRead rowsOf rowOf mirrored
+policy-says = refl
+
+-- "that is call 0, enable 0, call 1, check 0, check 1, disable 0, check 0, revert 0, check 0, return, check 0"
+abbrev operations : List ℕ → List Operation
+operations [] = []
+operations (a ∷ []) = []
+operations (a ∷ b ∷ rest) = operationOf (256 * a + b) ∷ operations rest
+
+pub A-says : operations A ≡ (Call 0 ∷ Enable 0 ∷ Call 1 ∷ Check 0 ∷ Check 1 ∷ Disable 0 ∷ Check 0 ∷ Revert 0 ∷ Check 0 ∷ Return ∷ Check 0 ∷ [])
+unfolding operationOf
+A-says = refl
 
 -- trace A up to its first check
 abbrev A3 : List ℕ

@@ -139,10 +139,10 @@ pub fn record_run(policy: &[u64; 35], trace: &[u8], answers: &mut [u8]) -> Repor
 }
 
 // Where a frame's run was left: past its return, at the trace's end, or at a refused word.
-pub struct Left {
-    pub at: usize,
-    pub number: u8,
-    pub back: bool,
+struct Left {
+    at: usize,
+    number: u8,
+    back: bool,
 }
 
 // The words of one frame from a position on, its callees' among them: it calls itself at a call, and comes back at a return.
