@@ -1,4 +1,4 @@
-// Document 01 as code sees it: operations, words and refusals by name. What they mean stands in specs/.
+// Document 01 as code sees it: operations, words, answers and refusals by name. What they mean stands in specs/.
 ghost use mathlib.Core.Path.{_≡_};
 ghost use mathlib.Core.Bool.{cond};
 ghost use Prim.Native.Nat.{_%_};
