@@ -4,12 +4,12 @@ use mathlib.Core.Bool.{Bool, true, false, cond}
 use Prim.Native.Nat.{ℕ, suc}
 use native.Mathlib.Omega.{arith}
 
--- a test that refuses where it holds
+-- a test that refuses where it holds, by the number after n
 pub spared : (b : Bool) (n x : ℕ) → cond b (suc n) x ≡ 0 → (b ≡ false) × (x ≡ 0)
 spared true n x h = absurd (omega arith)
 spared false n x h = (refl, h)
 
--- and one that refuses where it fails
+-- and one that refuses where it fails, likewise
 pub met : (b : Bool) (n x : ℕ) → cond b x (suc n) ≡ 0 → (b ≡ true) × (x ≡ 0)
 met true n x h = (refl, h)
 met false n x h = absurd (omega arith)
