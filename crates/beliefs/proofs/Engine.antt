@@ -111,10 +111,10 @@ module _ (Pictures : List ℕ → List Frame → Type 0) (counts fits : Bool) (a
           }
 
       -- 7, 8, or the answer
-      pub done-word : (x : Held) → d ≡ Word x → (r : Answer) (left : List ℕ) → Serve Pictures counts p s (x .op) r left (act (x .op))
+      pub done-word : (x : Held) → d ≡ Word x → (r : Answer) (left : List ℕ) (size : ℕ) → Serve Pictures counts size p s (x .op) r left (act (x .op))
           → (byte : ℕ) → byte ≡ cond (eqb (r .number) 0) (r .byte) lent → Operate Pictures counts fits act p s w (r .number) lent byte left
       unfolding guarded
-      done-word x q r left h byte b =
+      done-word x q r left size h byte b =
           let told : decoded (signers p) (targets p) w 0 ≡ Word x = sym e ∙ q in
           let i : inside p (x .op) ≡ true = rw told at (decoded-fair p w 0) in
           record {
@@ -127,3 +127,14 @@ module _ (Pictures : List ℕ → List Frame → Type 0) (counts fits : Bool) (a
 
           answered : {o : Outcome} → Serves Pictures counts r left o → Answers Pictures counts (r .number) lent byte left o
           answered k = record { number = k .number; answer = b ∙ written (k .number) (k .byte); pictures = k .pictures }
+
+-- an operation on a state that number 14 lets through leaves one that it lets through, of an engine whose states picture some stack exactly then
+pub operate-stays : (Pictures : List ℕ → List Frame → Type 0) (counts : Bool) (fits : List ℕ → Bool) → ((s : List ℕ) (st : List Frame) → Pictures s st → fits s ≡ true)
+    → (act : Operation → Moved) (p s : List ℕ) → (valid p ≡ true → (st : List Frame) × Pictures s st)
+    → (w n lent byte : ℕ) (left : List ℕ) → Operate Pictures counts (fits s) act p s w n lent byte left → fits s ≡ true → fits left ≡ true
+unfolding guarded
+operate-stays Pictures counts fits fitting act p s some w n lent byte left h here = go (valid p) refl
+  where
+    go : (e : Bool) → valid p ≡ e → fits left ≡ true
+    go true q = let pictured = some q in fitting left _ (h .answers q here (pictured .0) (pictured .1) .pictures)
+    go false q = rw (rw q at (h .exact .state)) here

@@ -2,10 +2,11 @@
 use mathlib.Core.Path.{_≡_, refl, sym, ap, ap₂, _∙_}
 use mathlib.Core.Bool.{Bool, true, false, cond, not, _&&_, _||_, and-false, and-true}
 use mathlib.Core.List.{List, [], _∷_}
-use Prim.Native.Nat.{ℕ, zero, suc, _≤_}
+use Prim.Native.Nat.{ℕ, zero, suc, _^_, _≤_, _<_}
 use native.Mathlib.Omega.{arith}
 use mathlib.Core.Logic.{_≢_}
 use lib.Dec.{eqb, ltb}
+use lib.Pow.{pow-pos, ones-lt}
 use borrow.Author.Tests.{eqb-true, eqb-false, eq-eqb, ne-eqb, ltb-true, ltb-false, lt-ltb, le-ltb}
 use Rattle.bits.specs.Bit.{bit, lowest}
 use Rattle.bits.proofs.Laws.{bit-none, bit-ones, lowest-low}
@@ -160,3 +161,11 @@ module _ (p : List ℕ) (t s : ℕ) where
     pub inherited-called : any (inherited p t) (called p s (f ∷ r) .beliefs) ≡ granted p t (f ∷ r)
     unfolding called granted
     inherited-called = any-map (inherited p t) (said (f .principal)) (f .beliefs)
+
+-- what a start marks are targets of the policy
+pub start-lt : (p : List ℕ) → targets p ≤ 64 → startMarks p < 2 ^ targets p
+start-lt p few = go (full p)
+  where
+    go : (e : Bool) → cond e (lowest (targets p)) 0 < 2 ^ targets p
+    go true = rw (lowest-low (targets p) few) (ones-lt (targets p))
+    go false = pow-pos (targets p)

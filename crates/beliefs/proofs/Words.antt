@@ -1,5 +1,5 @@
--- What a decoded word is: an operation of the policy's signers and targets, or a refusal by a number other than 0. Assumes nothing.
-use mathlib.Core.Path.{_≡_, refl}
+-- What a decoded word is: an operation of the policy's signers and targets, with its index, or a refusal by a number other than 0. Assumes nothing.
+use mathlib.Core.Path.{_≡_, refl, ap}
 use mathlib.Core.Logic.{_≢_}
 use mathlib.Core.Bool.{Bool, true, false, cond}
 use mathlib.Core.List.{List}
@@ -8,6 +8,7 @@ use native.Mathlib.Omega.{arith}
 use lib.Dec.{eqb, ltb}
 use borrow.Author.Tests.{eqb-true, eqb-false}
 use Rattle.beliefs.specs.declared.Operation.the-variants.{Call, Return, Enable, Disable, Revert, Check}
+use Rattle.beliefs.specs.declared.Word.{Word as Held}
 use Rattle.beliefs.specs.declared.Decoded.{Decoded}
 use Rattle.beliefs.specs.declared.Decoded.the-variants.{Word, Refused}
 use Rattle.beliefs.specs.Policy.{signers, targets}
@@ -44,3 +45,14 @@ module _ (p : List ℕ) where
       go false true c q = omega arith
       go false false true q = not-outside w (eqb-true _ 0 q)
       go false false false q = eqb-false _ 0 q
+
+-- a decoded word holds its index
+pub decoded-index : (s n w i : ℕ) (x : Held) → Word x ≡ decoded s n w i → x .index ≡ i
+unfolding decoded
+decoded-index s n w i x = go (ltb 5 (wordOperation w)) (strayIn w) (eqb (outsideOf s n w) 0)
+  where
+    go : (a b c : Bool) → Word x ≡ cond a (Refused 4) (cond b (Refused 3) (cond c (Word (record { op = operationOf w; index = i })) (Refused (outsideOf s n w)))) → x .index ≡ i
+    go true b c e = cc
+    go false true c e = cc
+    go false false true e = let same : x ≡ record { op = operationOf w; index = i } = cc in ap (λ (y : Held). y .index) same
+    go false false false e = cc

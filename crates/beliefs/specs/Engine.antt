@@ -1,9 +1,10 @@
 -- What every engine promises of one operation: exactly, on its own state; and against the belief sets, over what its state pictures.
 use mathlib.Core.Path.{_≡_}
 use mathlib.Core.Bool.{Bool, true, cond, not, _&&_}
-use mathlib.Core.List.{List}
+use mathlib.Core.List.{List, []}
 use Prim.Native.Nat.{ℕ, _+_, _*_}
 use lib.Dec.{eqb, ltb}
+use lib.ListN.{replicate}
 use Rattle.beliefs.specs.declared.Operation.{Operation}
 use Rattle.beliefs.specs.declared.Operation.the-variants.{Call, Return, Enable, Disable, Revert, Check}
 use Rattle.beliefs.specs.declared.Decoded.{Decoded}
@@ -67,8 +68,10 @@ module _ (Pictures : List ℕ → List Frame → Type 0) (counts : Bool) where
     pub byte : r .byte ≡ answerByte counts o
     pub pictures : Pictures left (o .stack)
 
-  pub record Serve (p s : List ℕ) (op : Operation) (r : Answer) (left : List ℕ) (m : Moved) : Type 0 where
+  -- a fresh state, all zeros, pictures the stack with no frame
+  pub record Serve (size : ℕ) (p s : List ℕ) (op : Operation) (r : Answer) (left : List ℕ) (m : Moved) : Type 0 where
     pub gives : Gives r left m
+    pub begins : Pictures (replicate size 0) []
     pub serves : valid p ≡ true → inside p op ≡ true → (st : List Frame) → Pictures s st → Serves r left (step p op st)
 
 -- a word, refused in the order 13, 14, 4, 3, 5 or 6, 7, 8

@@ -9,19 +9,20 @@ use native.Mathlib.Nat.{lt-of-le-of-lt}
 use native.Mathlib.Omega.{arith}
 use lib.Bits.{bitOr, and-comm, and-le-l, or-lt}
 use lib.Dec.{eqb, ltb}
-use lib.Pow.{pow-pos, ones-lt}
+use lib.Pow.{pow-pos}
 use borrow.Author.Tests.{ltb-true, eqb-true, eqb-false}
-use Rattle.bits.specs.Bit.{withoutBit, lowest}
-use Rattle.bits.proofs.Laws.{with-lt, without-lt, without-out, lowest-low}
+use Rattle.bits.specs.Bit.{withoutBit}
+use Rattle.bits.proofs.Laws.{with-lt, without-lt, without-out}
 use Rattle.beliefs.specs.declared.Operation.{Operation}
 use Rattle.beliefs.specs.declared.Operation.the-variants.{Call, Return, Enable, Disable, Revert, Check}
 use Rattle.beliefs.specs.Numbers.{badPolicy, badState}
 use Rattle.beliefs.specs.Policy.{signers, targets, row, valid}
-use Rattle.beliefs.specs.Stack.{full, startMarks}
+use Rattle.beliefs.specs.Stack.{startMarks}
 use Rattle.passed.specs.declared.Passed.{Passed}
 use Rattle.passed.specs.declared.Next.{Next}
 use Rattle.passed.specs.declared.Next.the-variants.{Stay, Down, Up, Refused}
 use Rattle.passed.specs.State.{fresh, grantedOf, callOf, unless, barredOf, ledTo, passedFits, outsideOf, refusalOf, operateOf}
+use Rattle.beliefs.proofs.Granted.{start-lt}
 use Rattle.beliefs.proofs.Policy.{ranges}
 use Rattle.beliefs.proofs.Refusals.{spared, met}
 use Rattle.passed.proofs.Fits.{Framed, fits-framed, framed-fits}
@@ -32,13 +33,6 @@ Fit p (Stay s b) = passedFits p s ≡ true
 Fit p (Down s) = passedFits p s ≡ true
 Fit p Up = Unit {0}
 Fit p (Refused n) = Unit {0}
-
-start-lt : (p : List ℕ) → targets p ≤ 64 → startMarks p < 2 ^ targets p
-start-lt p few = go (full p)
-  where
-    go : (e : Bool) → cond e (lowest (targets p)) 0 < 2 ^ targets p
-    go true = rw (lowest-low (targets p) few) (ones-lt (targets p))
-    go false = pow-pos (targets p)
 
 -- no target is granted that neither the frame nor its callers have
 granted-lt : (p : List ℕ) (s : Passed) → s .own < 2 ^ targets p → s .callers < 2 ^ targets p → grantedOf p s < 2 ^ targets p

@@ -7,11 +7,11 @@ use Rattle.bits.proofs.Unique.{one-result}
 use Rattle.beliefs.specs.declared.Operation.{Operation}
 use Rattle.passed.specs.declared.Passed.{Passed}
 use Rattle.passed.specs.declared.Next.{Next}
-use Rattle.passed.specs.State.{fresh, callOf, enableOf, disableOf, revertOf, checkOf, passedFits, refusalOf}
-use Rattle.passed.specs.Picture.{Passes}
+use Rattle.passed.specs.State.{callOf, enableOf, disableOf, revertOf, checkOf, passedFits, refusalOf}
+use Rattle.passed.specs.Picture.{Begins, Passes}
 
-pub fresh-unique : (r q : Passed) → r ≡ fresh → q ≡ fresh → r ≡ q
-fresh-unique r q = one-result
+pub fresh-unique : (r q : Passed) → Begins r → Begins q → r ≡ q
+fresh-unique r q h k = one-result (h .exact) (k .exact)
 
 pub call-unique : (p : List ℕ) (s : Passed) (g : ℕ) (r q : Passed) → r ≡ callOf p s g → q ≡ callOf p s g → r ≡ q
 call-unique p s g r q = one-result

@@ -35,6 +35,11 @@ pub record PassedOf (p : List ℕ) (s : Passed) (st : List Frame) : Type 0 where
   pub deep : s .depth ≡ length st
   pub says : Says p s st
 
+-- a fresh state: without a frame, under any policy
+pub record Begins (s : Passed) : Type 0 where
+  pub exact : s ≡ fresh
+  pub pictures : (p : List ℕ) → PassedOf p s []
+
 -- the frames below the newest
 abbrev pub below : List Frame → List Frame
 below [] = []

@@ -1,7 +1,7 @@
 // The passed state: what a frame needs to know of its callers, a bit for each target. It goes down with a call as an argument.
 ghost use mathlib.Core.Path.{_≡_};
-ghost use Rattle.passed.specs.State.{fresh, grantedOf, callOf, enableOf, disableOf, revertOf, checkOf, barredOf, nothingIn, bitsFit, passedFits, outsideOf, refusalOf};
-ghost use Rattle.passed.specs.Picture.{Passes};
+ghost use Rattle.passed.specs.State.{grantedOf, callOf, enableOf, disableOf, revertOf, checkOf, barredOf, nothingIn, bitsFit, passedFits, outsideOf, refusalOf};
+ghost use Rattle.passed.specs.Picture.{Begins, Passes};
 use beliefs::Operation;
 
 // A word with no bit set.
@@ -30,7 +30,7 @@ pub enum Next {
 impl Passed {
     // No frame.
     pub fn fresh() -> Self
-        ensures { λ r. ⌜ r ≡ fresh ⌝ }
+        ensures { λ r. ⌜ Begins r ⌝ }
     {
         Passed {
             depth: 0,

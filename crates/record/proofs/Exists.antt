@@ -1,4 +1,4 @@
--- A fresh state pictures the empty stack, and every state that number 14 lets through pictures some stack of the definition: no promise over pictures is empty. Assumes nothing.
+-- Every state that number 14 lets through pictures some stack of the definition: no promise over pictures is empty. Assumes nothing.
 use mathlib.Core.Path.{_≡_, refl, sym, ap, ap₂, _∙_}
 use mathlib.Core.Bool.{Bool, true, false, cond, _&&_, _||_, and-false, and-true, and-or-distrib-left, and-or-distrib-right}
 use mathlib.Core.List.{List, [], _∷_, _++_}
@@ -6,7 +6,7 @@ use Prim.Native.Nat.{ℕ, zero, suc, _+_, _*_, _^_, _≤_, _<_}
 use native.Mathlib.Decide.{decLt}
 use native.Mathlib.Omega.{arith}
 use lib.Dec.{eqb, ltb, leb}
-use lib.ListN.{length, getD, take, replicate, length-map, List·getD-eq-default}
+use lib.ListN.{length, getD, take, length-map, List·getD-eq-default}
 use lib.Seq.{length-take-le}
 use borrow.Author.Tests.{lt-ltb, le-ltb, ltb-true, ltb-false, leb-true}
 use Rattle.bits.specs.Bit.{bit}
@@ -14,7 +14,7 @@ use Rattle.bits.proofs.Laws.{bit-none, bit-high}
 use Rattle.beliefs.specs.Lists.{any, keep, each}
 use Rattle.beliefs.specs.Policy.{signers, targets}
 use Rattle.beliefs.specs.Stack.{Belief, Frame}
-use Rattle.beliefs.proofs.Lists.{any-ext, any-and, any-keep, any-append, each-at, zeros}
+use Rattle.beliefs.proofs.Lists.{any-ext, any-and, any-keep, any-append, each-at}
 use Rattle.beliefs.proofs.Granted.{ltb-step}
 use Rattle.record.specs.Record.{depth, signerAt, heldAt, wordsBelow, words, frameFits, recordFits}
 use Rattle.record.specs.Pictures.{principals, AllFounded, withLength, FramePictured, FramesPictured, Pictures}
@@ -22,9 +22,6 @@ use Rattle.beliefs.proofs.Policy.{both}
 use Rattle.record.proofs.Runs.{words-at}
 use Rattle.record.proofs.Chains.{at-length}
 use Rattle.record.proofs.Kept.{founded-keep}
-
-pub fresh : (p : List ℕ) → Pictures p (replicate 4096 0) []
-fresh p = record { room = omega arith; deep = refl; frames = tt; above = λ i l. zeros 4096 i }
 
 -- every belief that a frame above r may hold: on each target below n, a chain of each length up to the frames below
 beliefOn : ℕ → List Frame → ℕ → Belief

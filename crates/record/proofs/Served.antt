@@ -1,10 +1,10 @@
 -- One operation on the words gives the number, the answer and the picture of the same operation on the belief sets. Assumes nothing.
 use mathlib.Core.Path.{_≡_, refl}
 use mathlib.Core.Bool.{true, false}
-use mathlib.Core.List.{List}
+use mathlib.Core.List.{List, []}
 use Prim.Native.Nat.{ℕ}
 use native.Mathlib.Omega.{arith}
-use lib.ListN.{length}
+use lib.ListN.{length, replicate}
 use borrow.Author.Tests.{ltb-true}
 use Rattle.beliefs.specs.declared.Operation.{Operation}
 use Rattle.beliefs.specs.declared.Operation.the-variants.{Call, Return, Enable, Disable, Revert, Check}
@@ -15,10 +15,15 @@ use Rattle.beliefs.specs.Trace.{step}
 use Rattle.beliefs.specs.Engine.{inside, Gives, Serve}
 use Rattle.record.specs.Record.{depth, callIn, returnIn, holdIn, checkIn, stepIn}
 use Rattle.record.specs.Pictures.{Pictures}
+use Rattle.beliefs.proofs.Lists.{zeros}
 use Rattle.beliefs.proofs.Policy.{ranges, in-word}
 use Rattle.beliefs.proofs.Engine.{Mirrors, call-mirrors, return-mirrors, newest-mirrors, check-mirrors, serves-by}
 use Rattle.record.proofs.Chains.{granted-in}
 use Rattle.record.proofs.Kept.{enable-kept, disable-kept, revert-kept, return-kept, call-kept}
+
+-- a fresh state, all zeros, pictures the stack with no frame
+pub fresh : (p : List ℕ) → Pictures p (replicate 4096 0) []
+fresh p = record { room = omega arith; deep = refl; frames = tt; above = λ i l. zeros 4096 i }
 
 module _ (p s : List ℕ) (ok : valid p ≡ true) (whole : length s ≡ 4096) where
   -- the depth of a state that pictures a stack
@@ -35,8 +40,9 @@ module _ (p s : List ℕ) (ok : valid p ≡ true) (whole : length s ≡ 4096) wh
   simulate (Check t) i st h = check-mirrors (Pictures p) false s (depth s) high p t _ 0 (λ f r k. (granted-in p s t f r k, refl)) st h
 
 -- what the code gives serves the belief sets
-pub promised : (p s : List ℕ) → length s ≡ 4096 → (op : Operation) (r : Answer) (left : List ℕ) → Gives r left (stepIn p s op) → Serve (Pictures p) false p s op r left (stepIn p s op)
+pub promised : (p s : List ℕ) → length s ≡ 4096 → (op : Operation) (r : Answer) (left : List ℕ) → Gives r left (stepIn p s op) → Serve (Pictures p) false 4096 p s op r left (stepIn p s op)
 promised p s whole op r left g = record {
   gives = g;
+  begins = fresh p;
   serves = λ ok i st h. serves-by (Pictures p) false r left _ _ g (simulate p s ok whole op i st h);
 }

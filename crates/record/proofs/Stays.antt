@@ -9,12 +9,11 @@ use lib.Dec.{eqb}
 use lib.ListN.{length, getD}
 use borrow.Author.Tests.{lt-ltb, le-leb, eqb-true, eqb-false, ne-eqb}
 use Rattle.bits.proofs.Laws.{high-bits}
-use Rattle.beliefs.specs.declared.Operation.{Operation}
-use Rattle.beliefs.specs.declared.Answer.{Answer}
 use Rattle.beliefs.specs.Lists.{any}
-use Rattle.beliefs.specs.Policy.{signers, targets, valid}
+use Rattle.beliefs.specs.Policy.{signers, targets}
 use Rattle.beliefs.specs.Stack.{Belief, Frame}
-use Rattle.beliefs.specs.Engine.{inside, Serve, guarded, Operate}
+use Rattle.beliefs.specs.Engine.{Operate}
+use Rattle.beliefs.proofs.Engine as engine
 use Rattle.beliefs.proofs.Lists.{each-of}
 use Rattle.record.specs.Record.{depth, signerAt, heldAt, words, frameFits, recordFits, stepIn}
 use Rattle.record.specs.Pictures.{AllFounded, withLength, FramePictured, FramesPictured, Pictures}
@@ -68,17 +67,7 @@ fits p s st h =
     )
     (words-all s (65 * depth s + 1) 4096 0 (λ i l m. let zero : getD s i 0 ≡ 0 = h .above i (omega arith) in omega arith))
 
--- what a caller of `serve` and of `operate` may count on
-pub serve-stays : (p s : List ℕ) (op : Operation) (r : Answer) (left : List ℕ) → length s ≡ 4096 → Serve (Pictures p) false p s op r left (stepIn p s op)
-    → valid p ≡ true → inside p op ≡ true → recordFits p s ≡ true → recordFits p left ≡ true
-serve-stays p s op r left whole v ok i h =
-    let st = pictured p s whole h in
-    fits p left _ (v .serves ok i (st .0) (st .1) .pictures)
-
+-- what a caller of `operate` may count on
 pub operate-stays : (p s : List ℕ) (word n lent byte : ℕ) (left : List ℕ) → length s ≡ 4096 → Operate (Pictures p) false (recordFits p s) (stepIn p s) p s word n lent byte left → recordFits p s ≡ true → recordFits p left ≡ true
-unfolding guarded
-operate-stays p s word n lent byte left whole v h = go (valid p) refl
-  where
-    go : (e : Bool) → valid p ≡ e → recordFits p left ≡ true
-    go true q = let st = pictured p s whole h in fits p left _ (v .answers q h (st .0) (st .1) .pictures)
-    go false q = rw (rw q at (v .exact .state)) h
+operate-stays p s word n lent byte left whole h f =
+    engine.operate-stays (Pictures p) false (recordFits p) (fits p) (stepIn p s) p s (λ v. pictured p s whole f) word n lent byte left h f

@@ -14,8 +14,8 @@ use Rattle.record.specs.Pictures.{Pictures}
 pub valid-unique : (p s : List ℕ) (r q : Bool) → r ≡ recordFits p s → q ≡ recordFits p s → r ≡ q
 valid-unique p s r q = one-result
 
-pub serve-unique : (p s : List ℕ) (op : Operation) (r q : Answer) (left other : List ℕ) → Serve (Pictures p) false p s op r left (stepIn p s op)
-    → Serve (Pictures p) false p s op q other (stepIn p s op) → (r ≡ q) × (left ≡ other)
+pub serve-unique : (p s : List ℕ) (op : Operation) (r q : Answer) (left other : List ℕ) → Serve (Pictures p) false 4096 p s op r left (stepIn p s op)
+    → Serve (Pictures p) false 4096 p s op q other (stepIn p s op) → (r ≡ q) × (left ≡ other)
 serve-unique p s op r q left other h k = gives-unique (stepIn p s op) r q left other (h .gives) (k .gives)
 
 pub operate-unique : (p s : List ℕ) (w lent r q byte byte′ : ℕ) (left other : List ℕ)

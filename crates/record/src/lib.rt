@@ -276,7 +276,7 @@ fn check(policy: &[u64; 35], state: &[u64; 4096], target: u8) -> Answer
 
 // One operation that the caller has decoded, refused by 7 or 8.
 pub fn serve(policy: &[u64; 35], state: &mut [u64; 4096], op: Operation) -> Answer
-    ensures { λ r. ⌜ Serve (Pictures (now (policy .entry))) false (now (policy .entry)) (now (state .entry)) op r (now (state .exit)) (stepIn (now (policy .entry)) (now (state .entry)) op) ⌝ }
+    ensures { λ r. ⌜ Serve (Pictures (now (policy .entry))) false 4096 (now (policy .entry)) (now (state .entry)) op r (now (state .exit)) (stepIn (now (policy .entry)) (now (state .entry)) op) ⌝ }
 {
     // As a slice, so that its length is known.
     let whole: &[u64] = state;

@@ -20,7 +20,7 @@ use Rattle.passed.specs.Picture.{PassedOf, below, Goes, Passes, Stays, Descends
 use Rattle.runner.specs.Progress.{decodedAt, Answered, Stopped}
 use Rattle.runner.specs.Nested.{Leaves}
 use Rattle.runner.proofs.Progress.{none-yet, then-more, then-stopped, finished, refused, one-more}
-use Rattle.runner.proofs.Going.{fair, Reads}
+use Rattle.runner.proofs.Going.{fair, Reads, its-index}
 
 -- the words of a frame up to i: the stack is the one that the state pictures, over the same frames
 pub record Far (p trace lent : List ℕ) (st : List Frame) (from i : ℕ) (s : Passed) (answers : List ℕ) : Type 0 where
@@ -50,9 +50,9 @@ module _ (p trace lent : List ℕ) (st : List Frame) (from i : ℕ) (s : Passed)
     goes : (k : Next) → n ≡ k → Goes p (g .stack) after k
     goes k q = rw q at (h .serves (w .policy) (fair p trace i (Word x) (w .word)) (g .stack) (g .pictures))
 
-    bad-op : (m : ℕ) → n ≡ Refused m → Stopped false p trace lent st from i m answers
+    bad-op : (m : ℕ) → n ≡ Refused m → Stopped false p trace lent st from (x .index) m answers
     bad-op m q = let o : Refuses after m = goes (Refused m) q in
-        refused false p trace lent st from i (g .stack) answers (g .answered) (w .more) (Word x) (w .word) m (o .number) (o .refused)
+        rw (its-index w) (refused false p trace lent st from i (g .stack) answers (g .answered) (w .more) (Word x) (w .word) m (o .number) (o .refused))
 
     -- one word answered
     word : (byte : ℕ) → after .number ≡ 0 → byte ≡ answerByte false after → Answered false p trace lent st from (i + 1) (after .stack) (set answers i byte)
@@ -105,8 +105,8 @@ module _ {p trace lent : List ℕ} {s₀ : Passed} {from i : ℕ} {s : Passed} {
   leaves-bad-word more d e n m q r = left-over i n answers (λ st k. bad-word p trace lent st from i s answers (f .far st k) more d e n m q r)
 
   module _ {x : Held} (w : Reads p trace i x) {n : Next} (h : Passes p s (x .op) n) where
-    pub leaves-bad-op : (m : ℕ) → n ≡ Refused m → Leaves p trace lent s₀ from i m false answers
-    leaves-bad-op m q = left-over i m answers (λ st k. bad-op p trace lent st from i s answers (f .far st k) x w n h m q)
+    pub leaves-bad-op : (m : ℕ) → n ≡ Refused m → Leaves p trace lent s₀ from (x .index) m false answers
+    leaves-bad-op m q = left-over (x .index) m answers (λ st k. bad-op p trace lent st from i s answers (f .far st k) x w n h m q)
 
     pub leaves-up : n ≡ Up → Leaves p trace lent s₀ from (i + 1) 0 true (set answers i 0)
     leaves-up q = record { later = λ b. omega (arith, f .later); left = λ st k. up p trace lent st from i s answers (f .far st k) x w n h q }

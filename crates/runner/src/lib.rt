@@ -65,7 +65,7 @@ fn walk_words(policy: &[u64; 35], trace: &[u8], answers: &mut [u8]) -> Report
         if done.number != beliefs::ACCEPTED {
             return Report {
                 number: done.number,
-                figure: i as u64,
+                figure: w.index as u64,
             };
         }
         answers[i] = done.byte;
@@ -112,7 +112,7 @@ fn record_words(policy: &[u64; 35], trace: &[u8], answers: &mut [u8]) -> Report
         if kept.number != beliefs::ACCEPTED {
             return Report {
                 number: kept.number,
-                figure: i as u64,
+                figure: w.index as u64,
             };
         }
         answers[i] = kept.byte;
@@ -173,7 +173,7 @@ fn frame_run(
         match next {
             Next::Refused(number) => {
                 return Left {
-                    at: i,
+                    at: w.index,
                     number,
                     back: false,
                 };

@@ -1,4 +1,4 @@
--- Every valid state pictures some stack of the definition, so no promise about pictured stacks is empty. Assumes nothing.
+-- Every valid state pictures some stack of the definition, so no promise about pictured stacks is empty, and no operation on a valid state leaves another. Assumes nothing.
 use mathlib.Core.Path.{_≡_, refl, sym, ap, ap₂, _∙_}
 use mathlib.Core.Bool.{Bool, true, false, not, _&&_, _||_, and-false, and-true, or-false}
 use mathlib.Core.List.{List, [], _∷_, _++_, map}
@@ -6,22 +6,23 @@ use Prim.Native.Nat.{ℕ, zero, suc, _^_, _≤_, _<_}
 use native.Mathlib.Omega.{arith}
 use native.Mathlib.Nat.{lt-of-lt-of-le}
 use lib.Pow.{pow-mono}
-use lib.Dec.{ltb, leb}
+use lib.Dec.{ltb}
 use lib.ListN.{getD, length}
-use borrow.Author.Tests.{ltb-true, leb-true}
-use Rattle.bits.specs.Bit.{bit, below}
+use Rattle.bits.specs.Bit.{bit}
 use Rattle.bits.proofs.Laws.{below-bits}
 use Rattle.beliefs.specs.declared.Marked.{Marked}
-use Rattle.beliefs.specs.Lists.{any, all, keep, empty, each}
+use Rattle.beliefs.specs.Lists.{any, all, keep, empty}
 use Rattle.beliefs.specs.Stack.{Belief, Frame, own, said, permitted, granted, called, marked}
-use Rattle.beliefs.specs.Engine.{inherited}
-use Rattle.beliefs.specs.Policy.{signers, targets, valid}
-use Rattle.beliefs.proofs.Policy.{both, ranges}
-use Rattle.beliefs.proofs.Lists.{any-append, each-at}
+use Rattle.beliefs.specs.Engine.{inherited, Operate}
+use Rattle.beliefs.specs.Policy.{valid}
+use Rattle.beliefs.proofs.Policy.{ranges}
+use Rattle.beliefs.proofs.Lists.{any-append}
 use Rattle.beliefs.proofs.Granted.{any-not, own-called, inherited-called}
 use Rattle.beliefs.proofs.Chosen.{chosen, chosen-any}
-use Rattle.walk.specs.State.{depth, frameAt, framesAt, inUse, fits}
+use Rattle.beliefs.proofs.Engine as engine
+use Rattle.walk.specs.State.{depth, frameAt, framesAt, fits, stepIn}
 use Rattle.walk.specs.Coherent.{Sound, Coherent, Pictures}
+use Rattle.walk.proofs.Fits.{Fitting, fitting}
 
 -- what a callee is handed
 handed : List Frame → List Belief
@@ -77,21 +78,12 @@ stack-pictured p s (suc k) low =
     let below = stack-pictured p s k (λ j l. low j (omega arith)) in
     (ap (λ (ms : List Marked). frameAt s k ∷ ms) (below .0), (stand-sound p (frameAt s k) (stack-of s k) (low k (omega arith)), below .1))
 
--- a frame in use has no mark at 64 or above
-marks-low : (p s : List ℕ) → targets p ≤ 64 → (j : ℕ) → inUse p s j ≡ true → frameAt s j .enabled < 2 ^ 64
-unfolding inUse below
-marks-low p s few j h =
-    let a = both (ltb (frameAt s j .signer) (signers p)) h in
-    let b = both (ltb (frameAt s j .enabled) (2 ^ targets p)) (a .1) in
-    lt-of-lt-of-le (ltb-true _ _ (b .0)) (pow-mono few)
-
 pub pictured : (p s : List ℕ) → valid p ≡ true → fits p s ≡ true → (st : List Frame) × Pictures p s st
-unfolding fits
 pictured p s v h =
-    let a = both (leb (getD s 0 0) 63) h in
-    let room : getD s 0 0 ≤ 63 = leb-true _ _ (a .0) in
+    let f : Fitting p s = fitting p s h in
+    let room : getD s 0 0 ≤ 63 = f .few in
     let d : depth s ≡ getD s 0 0 = omega arith in
-    let low : (j : ℕ) → j < getD s 0 0 → frameAt s j .enabled < 2 ^ 64 = λ j l. marks-low p s (ranges p v .targets-most) j (each-at (inUse p s) (depth s) (both (each (inUse p s) (depth s)) (a .1) .0) j (omega arith)) in
+    let low : (j : ℕ) → j < getD s 0 0 → frameAt s j .enabled < 2 ^ 64 = λ j l. lt-of-lt-of-le (f .used j (omega arith) .enabled) (pow-mono (ranges p v .targets-most)) in
     let stack = stack-pictured p s (getD s 0 0) low in (
       stack-of s (getD s 0 0),
       record {
@@ -99,5 +91,10 @@ pictured p s v h =
         deep = sym (stack-length s (getD s 0 0));
         same = ap (λ (n : ℕ). framesAt s n) d ∙ stack .0;
         coherent = stack .1;
+        fits = h;
       },
     )
+
+pub operate-stays : (p s : List ℕ) (word n lent byte : ℕ) (left : List ℕ) → Operate (Pictures p) true (fits p s) (stepIn p s) p s word n lent byte left → fits p s ≡ true → fits p left ≡ true
+operate-stays p s word n lent byte left h f =
+    engine.operate-stays (Pictures p) true (fits p) (λ s st k. k .fits) (stepIn p s) p s (λ v. pictured p s v f) word n lent byte left h f

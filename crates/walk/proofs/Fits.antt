@@ -1,20 +1,24 @@
--- Number 14's tests of a walk state: marks together, and the room above the depth as one run of words. Assumes nothing.
+-- Number 14's tests of a walk state: marks together, and the room above the depth as one run of words; and what keeps it from refusing. Assumes nothing.
 use mathlib.Core.Path.{_≡_, refl, sym, ap, ap₂, _∙_}
-use mathlib.Core.Bool.{Bool, false, _&&_, and-assoc}
+use mathlib.Core.Bool.{Bool, true, false, _&&_, and-assoc}
+use mathlib.Core.Logic.{_≢_}
 use mathlib.Core.List.{List}
-use Prim.Native.Nat.{ℕ, zero, suc, _+_, _-_, _*_, _≤_, _<_}
+use Prim.Native.Nat.{ℕ, zero, suc, _+_, _-_, _*_, _^_, _≤_, _<_}
 use native.Mathlib.Numerals.{add-one}
 use native.Mathlib.Omega.{arith}
 use lib.Bits.{bitOr}
-use lib.Dec.{eqb}
+use lib.Dec.{eqb, ltb, leb}
 use lib.ListN.{length, getD, take, drop}
-use borrow.Author.Tests.{lt-ltb, le-ltb}
+use borrow.Author.Tests.{lt-ltb, le-ltb, le-leb, ltb-true, leb-true, eqb-true, eqb-false}
 use Rattle.bits.specs.Bit.{below, allBelow}
 use Rattle.bits.proofs.Laws.{below-none, below-nothing, below-or}
+use Rattle.beliefs.specs.declared.Marked.{Marked}
 use Rattle.beliefs.specs.Lists.{each}
 use Rattle.beliefs.specs.Policy.{signers, targets}
-use Rattle.beliefs.proofs.Lists.{each-ext, part-below}
-use Rattle.walk.specs.State.{frameAt, inUse, unused}
+use Rattle.beliefs.specs.Stack.{nobody}
+use Rattle.beliefs.proofs.Lists.{each-ext, each-at, each-of, part-below}
+use Rattle.beliefs.proofs.Policy.{both}
+use Rattle.walk.specs.State.{depth, frameAt, inUse, unused, fits}
 
 -- frames in use, one more at each turn, with the marks of those before it together
 module _ (p s : List ℕ) where
@@ -65,3 +69,83 @@ room-above s d long few =
     three k =
         ap₂ (λ (x y : Bool). x && y) (word _ (3 * (d + k) + 1) (omega arith))
         (ap₂ (λ (x y : Bool). x && y) (word _ (3 * (d + k) + 2) (omega arith)) (word _ (3 * (d + k) + 3) (omega arith)))
+
+-- a frame of a signer below S, with marks for targets below N only
+pub record Used (p : List ℕ) (m : Marked) : Type 0 where
+  pub signer : m .signer < signers p
+  pub enabled : m .enabled < 2 ^ targets p
+  pub disabled : m .disabled < 2 ^ targets p
+
+-- what number 14 lets through, frame by frame
+pub record Fitting (p s : List ℕ) : Type 0 where
+  pub few : getD s 0 0 ≤ 63
+  pub used : (j : ℕ) → j < depth s → Used p (frameAt s j)
+  pub free : (j : ℕ) → depth s ≤ j → j < 63 → frameAt s j ≡ nobody
+
+module _ (p s : List ℕ) where
+  use-of : (j : ℕ) → inUse p s j ≡ true → Used p (frameAt s j)
+  unfolding inUse below
+  use-of j h =
+      let a = both (ltb (frameAt s j .signer) (signers p)) h in
+      let b = both (ltb (frameAt s j .enabled) (2 ^ targets p)) (a .1) in
+      record { signer = ltb-true _ _ (a .0); enabled = ltb-true _ _ (b .0); disabled = ltb-true _ _ (b .1) }
+
+  in-use : (j : ℕ) → Used p (frameAt s j) → inUse p s j ≡ true
+  unfolding inUse below
+  in-use j u = rw (lt-ltb _ _ (u .signer), lt-ltb _ _ (u .enabled), lt-ltb _ _ (u .disabled))
+
+  free-of : (j : ℕ) → unused s j ≡ true → frameAt s j ≡ nobody
+  unfolding unused
+  free-of j h =
+      let a = both (eqb (frameAt s j .signer) 0) h in
+      let b = both (eqb (frameAt s j .enabled) 0) (a .1) in
+      let no-signer : frameAt s j .signer ≡ 0 = eqb-true _ 0 (a .0) in
+      let none-enabled : frameAt s j .enabled ≡ 0 = eqb-true _ 0 (b .0) in
+      let none-disabled : frameAt s j .disabled ≡ 0 = eqb-true _ 0 (b .1) in
+      λ i. record { signer = no-signer i; enabled = none-enabled i; disabled = none-disabled i }
+
+  is-free : (j : ℕ) → frameAt s j ≡ nobody → unused s j ≡ true
+  unfolding unused
+  is-free j e = rw e
+
+  pub fitting : fits p s ≡ true → Fitting p s
+  unfolding fits
+  fitting h =
+      let a = both (leb (getD s 0 0) 63) h in
+      let b = both (each (inUse p s) (depth s)) (a .1) in
+      record {
+        few = leb-true _ _ (a .0);
+        used = λ j l. use-of j (each-at (inUse p s) (depth s) (b .0) j l);
+        free = λ j l m.
+            let e : depth s + (j - depth s) ≡ j = omega arith in
+            free-of j (rw e at (each-at (λ k. unused s (depth s + k)) (63 - depth s) (b .1) (j - depth s) (omega arith)));
+      }
+
+  pub fitted : Fitting p s → fits p s ≡ true
+  unfolding fits
+  fitted h = rw (
+    le-leb (getD s 0 0) 63 (h .few),
+    each-of (inUse p s) (depth s) (λ j l. in-use j (h .used j l)),
+    each-of (λ k. unused s (depth s + k)) (63 - depth s) (λ k l. is-free (depth s + k) (h .free (depth s + k) (omega arith) (omega arith))),
+  )
+
+-- another frame above k others and another depth, n: what is in use or free is so still, but for that frame
+pub fits-after : (p s s′ : List ℕ) (k n : ℕ) → fits p s ≡ true → getD s′ 0 0 ≡ n → n ≤ 63
+    → ((j : ℕ) → j ≢ k → (frameAt s′ j ≡ frameAt s j) × ((j < n → j < depth s) × (n ≤ j → depth s ≤ j)))
+    → (k < n → Used p (frameAt s′ k)) → (n ≤ k → frameAt s′ k ≡ nobody) → fits p s′ ≡ true
+fits-after p s s′ k n h deep few others used free =
+    let d : depth s′ ≡ n = omega arith in
+    let was = fitting p s h in
+    fitted p s′ (record {
+      few = omega arith;
+      used = λ j l. go-used j (omega arith) (eqb j k) refl;
+      free = λ j l m. go-free j (omega arith) m (eqb j k) refl;
+    })
+  where
+    go-used : (j : ℕ) → j < n → (e : Bool) → eqb j k ≡ e → Used p (frameAt s′ j)
+    go-used j l true q = let same : j ≡ k = eqb-true j k q in rw same (used (omega arith))
+    go-used j l false q = let o = others j (eqb-false j k q) in rw (o .0) (fitting p s h .used j (o .1 .0 l))
+
+    go-free : (j : ℕ) → n ≤ j → j < 63 → (e : Bool) → eqb j k ≡ e → frameAt s′ j ≡ nobody
+    go-free j l m true q = let same : j ≡ k = eqb-true j k q in rw same (free (omega arith))
+    go-free j l m false q = let o = others j (eqb-false j k q) in o .0 ∙ fitting p s h .free j (o .1 .1 l) m

@@ -51,7 +51,7 @@ module _ (s : List ℕ) (k : ℕ) (m : Marked) where
       (getD-set-other s₂ (3 * k + 3) (3 * k + 2) (m .disabled) 0 (omega arith) ∙ getD-set-same s₁ (3 * k + 2) (m .enabled) 0 (omega arith))
       (getD-set-same s₂ (3 * k + 3) (m .disabled) 0 (omega arith))
 
-  pub put-others : (j : ℕ) → j < k → frameAt (put s k m) j ≡ frameAt s j
+  pub put-others : (j : ℕ) → j ≢ k → frameAt (put s k m) j ≡ frameAt s j
   unfolding frameAt
   put-others j h =
       same-frame (put s k m) j (frameAt s j)

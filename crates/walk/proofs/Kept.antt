@@ -2,11 +2,14 @@
 use mathlib.Core.Path.{_≡_, refl, sym, ap, ap₂, _∙_}
 use mathlib.Core.Bool.{true}
 use mathlib.Core.List.{List, [], _∷_, map}
-use Prim.Native.Nat.{ℕ, suc, _+_, _-_, _≤_, _<_}
+use mathlib.Core.Logic.{_≢_}
+use Prim.Native.Nat.{ℕ, suc, _+_, _-_, _^_, _≤_, _<_}
 use native.Mathlib.Omega.{arith}
 use lib.ListN.{getD, set, length, replicate}
+use lib.Pow.{pow-pos}
 use lib.Seq.{getD-set-same}
-use borrow.Author.Tests.{ne-eqb}
+use borrow.Author.Tests.{ne-eqb, ltb-true}
+use Rattle.bits.proofs.Laws.{with-lt, without-lt}
 use Rattle.beliefs.specs.declared.Answer.{Answer}
 use Rattle.beliefs.specs.declared.Marked.{Marked}
 use Rattle.beliefs.specs.declared.Seen.{Seen}
@@ -16,15 +19,20 @@ use Rattle.beliefs.specs.Stack.{Frame, nobody, marked, granted, walk, called, e
 use Rattle.beliefs.specs.Trace.{step}
 use Rattle.beliefs.specs.Engine.{inside, Gives, Serve}
 use Rattle.beliefs.proofs.Engine.{Mirrors, call-mirrors, return-mirrors, newest-mirrors, check-mirrors, serves-by}
+use Rattle.beliefs.specs.Policy.{signers, targets}
+use Rattle.beliefs.specs.Lists.{each}
+use Rattle.beliefs.proofs.Granted.{start-lt}
 use Rattle.beliefs.proofs.Policy.{Ranges, ranges, in-word}
-use Rattle.walk.specs.State.{depth, frameAt, framesAt, frames, put, remarked, markIn, newFrame, callIn, returnIn, checkIn, stepIn}
+use Rattle.walk.specs.State.{depth, frameAt, framesAt, frames, inUse, unused, fits, put, remarked, markIn, newFrame, callIn, returnIn, checkIn, stepIn}
 use Rattle.walk.specs.Coherent.{Sound, Pictures}
 use Rattle.walk.proofs.Frames.{length-put, put-frame, put-others, put-depth, set-depth, framesAt-same}
+use Rattle.walk.proofs.Fits.{Used, fitting, fits-after}
 use Rattle.walk.proofs.Agree.{agree, enable-sound, disable-sound, revert-sound, call-sound}
 
 -- a fresh state, all zeros, pictures the stack with no frame
 pub fresh : (p : List ℕ) → Pictures p (replicate 190 0) []
-fresh p = record { room = omega arith; deep = refl; same = refl; coherent = tt }
+unfolding fits each unused frameAt
+fresh p = record { room = omega arith; deep = refl; same = refl; coherent = tt; fits = refl }
 
 -- the depth of a state that pictures a stack
 pub high : (p s : List ℕ) (st : List Frame) → Pictures p s st → depth s ≡ length st
@@ -41,12 +49,18 @@ newest p s f r h =
     record { top = cc; rest = cc }
 
 -- a frame stored above k others, which stay, and the depth said anew
-module _ (s : List ℕ) (long : length s ≡ 190) (k : ℕ) (m : Marked) where
-  put-below : (n j : ℕ) → j ≤ k → framesAt (set (put s k m) 0 n) j ≡ framesAt s j
-  put-below n j h = framesAt-same s (set (put s k m) 0 n) j (λ i l. set-depth (put s k m) n i ∙ put-others s k m i (omega arith))
+module _ (s : List ℕ) (long : length s ≡ 190) (k : ℕ) (m : Marked) (n : ℕ) where
+  said-depth : getD (set (put s k m) 0 n) 0 0 ≡ n
+  said-depth = getD-set-same (put s k m) 0 n 0 (omega (arith, length-put s k m))
 
-  said-depth : (n : ℕ) → getD (set (put s k m) 0 n) 0 0 ≡ n
-  said-depth n = getD-set-same (put s k m) 0 n 0 (omega (arith, length-put s k m))
+  said-others : (j : ℕ) → j ≢ k → frameAt (set (put s k m) 0 n) j ≡ frameAt s j
+  said-others j o = set-depth (put s k m) n j ∙ put-others s k m j o
+
+  said-frame : k < 63 → frameAt (set (put s k m) 0 n) k ≡ m
+  said-frame l = set-depth (put s k m) n k ∙ put-frame s k m long l
+
+  said-below : framesAt (set (put s k m) 0 n) k ≡ framesAt s k
+  said-below = framesAt-same s (set (put s k m) 0 n) k (λ j l. said-others j (omega arith))
 
 module _ (p s : List ℕ) (long : length s ≡ 190) (ok : Ranges p) where
   -- call: a new frame above the others
@@ -55,60 +69,89 @@ module _ (p s : List ℕ) (long : length s ≡ 190) (ok : Ranges p) where
   new-frame g [] = refl
   new-frame g (f ∷ r) = rw (ne-eqb (length (f ∷ r)) 0 (omega arith))
 
-  call-kept : (g : ℕ) (st : List Frame) → Pictures p s st → length st < 63
+  new-used : (g : ℕ) → g < signers p → (st : List Frame) → Used p (marked (called p g st))
+  unfolding called
+  new-used g l [] = record { signer = l; enabled = start-lt p (ok .targets-most); disabled = pow-pos (targets p) }
+  new-used g l (f ∷ r) = record { signer = l; enabled = pow-pos (targets p); disabled = pow-pos (targets p) }
+
+  call-kept : (g : ℕ) → g < signers p → (st : List Frame) → Pictures p s st → length st < 63
       → Pictures p (set (put s (depth s) (newFrame p g (depth s))) 0 (depth s + 1)) (called p g st ∷ st)
-  call-kept g st h l =
+  call-kept g known st h l =
       let k : ℕ = length st in
       let m : Marked = newFrame p g k in
       let s′ : List ℕ = set (put s k m) 0 (k + 1) in
       let up : k + 1 ≡ suc k = omega arith in
+      let d : depth s ≡ k = high p s st h in
       let deep′ : getD s′ 0 0 ≡ suc k = said-depth s long k m (k + 1) ∙ up in
       let d′ : depth s′ ≡ suc k = omega arith in
-      let top′ : frameAt s′ k ≡ marked (called p g st) = set-depth (put s k m) (k + 1) k ∙ put-frame s k m long l ∙ new-frame g st in
-      let below′ : framesAt s′ k ≡ map marked st = put-below s long k m (k + 1) k (omega arith) ∙ ap (λ (n : ℕ). framesAt s n) (sym (high p s st h)) ∙ h .same in
-      rw (high p s st h) (record {
+      let top′ : frameAt s′ k ≡ marked (called p g st) = said-frame s long k m (k + 1) l ∙ new-frame g st in
+      let below′ : framesAt s′ k ≡ map marked st = said-below s long k m (k + 1) ∙ ap (λ (n : ℕ). framesAt s n) (sym d) ∙ h .same in
+      rw d (record {
         room = l;
         deep = deep′;
         same = ap (λ (n : ℕ). framesAt s′ n) d′ ∙ ap₂ (λ (x : Marked) (xs : List Marked). x ∷ xs) top′ below′;
         coherent = (call-sound p g st (ok .targets-most), h .coherent);
+        fits = fits-after p s s′ k (suc k) (h .fits) deep′ l (λ j o. (said-others s long k m (k + 1) j o, (λ low. omega arith, λ far. omega arith)))
+            (λ _. rw top′ (new-used g known st)) (λ past. absurd (omega arith));
       })
 
   -- return: zeros in the newest frame's place
-  return-kept : (f : Frame) (r : List Frame) → Pictures p s (f ∷ r) → Pictures p (set (put s (depth s - 1) nobody) 0 (depth s - 1)) r
-  return-kept f r h =
-      let k : ℕ = length r in
-      let s′ : List ℕ = set (put s k nobody) 0 k in
-      let room : suc k ≤ 63 = h .room in
-      let deep′ : getD s′ 0 0 ≡ k = said-depth s long k nobody k in
-      let d : depth s - 1 ≡ k = omega (arith, high p s (f ∷ r) h) in
+  vacated : (k n : ℕ) (f : Frame) (r : List Frame) → k ≡ length r → n ≡ length r → Pictures p s (f ∷ r) → Pictures p (set (put s k nobody) 0 n) r
+  vacated k n f r e e′ h =
+      let s′ : List ℕ = set (put s k nobody) 0 n in
+      let room : suc (length r) ≤ 63 = h .room in
+      let d : depth s ≡ suc (length r) = high p s (f ∷ r) h in
+      let deep′ : getD s′ 0 0 ≡ n = said-depth s long k nobody n in
       let d′ : depth s′ ≡ k = omega arith in
-      rw d (record {
+      record {
         room = omega arith;
-        deep = deep′;
-        same = ap (λ (n : ℕ). framesAt s′ n) d′ ∙ put-below s long k nobody k k (omega arith) ∙ newest p s f r h .rest;
+        deep = deep′ ∙ e′;
+        same = ap (λ (j : ℕ). framesAt s′ j) d′ ∙ said-below s long k nobody n ∙ ap (λ (j : ℕ). framesAt s j) e ∙ newest p s f r h .rest;
         coherent = h .coherent .1;
-      })
+        fits = fits-after p s s′ k n (h .fits) deep′ (omega arith) (λ j o. (said-others s long k nobody n j o, (λ low. omega arith, λ far. omega arith)))
+            (λ above. absurd (omega arith)) (λ _. said-frame s long k nobody n (omega arith));
+      }
+
+  return-kept : (f : Frame) (r : List Frame) → Pictures p s (f ∷ r) → Pictures p (set (put s (depth s - 1) nobody) 0 (depth s - 1)) r
+  return-kept f r h = vacated _ _ f r (omega (arith, high p s (f ∷ r) h)) (omega (arith, high p s (f ∷ r) h)) h
 
   -- enable, disable, revert: the newest frame with other marks
-  mark-kept : (op : Operation) (f g : Frame) (r : List Frame) → remarked op (marked f) ≡ marked g → Sound p g r → Pictures p s (f ∷ r)
+  mark-kept : (op : Operation) (f g : Frame) (r : List Frame) → remarked op (marked f) ≡ marked g → (Used p (marked f) → Used p (marked g)) → Sound p g r → Pictures p s (f ∷ r)
       → Pictures p (put s (depth s - 1) (remarked op (frameAt s (depth s - 1)))) (g ∷ r)
-  mark-kept op f g r e sound h =
+  mark-kept op f g r e used sound h =
       let k : ℕ = length r in
       let m : Marked = marked g in
       let room : suc k ≤ 63 = h .room in
       let high′ : depth s ≡ suc k = high p s (f ∷ r) h in
       let d : depth s - 1 ≡ k = omega arith in
-      let m′ : remarked op (frameAt s k) ≡ m = ap (remarked op) (newest p s f r h .top) ∙ e in
+      let top : frameAt s k ≡ marked f = newest p s f r h .top in
+      let m′ : remarked op (frameAt s k) ≡ m = ap (remarked op) top ∙ e in
       let s′ : List ℕ = put s k m in
       let deep′ : getD s′ 0 0 ≡ suc k = put-depth s k m ∙ h .deep in
       let d′ : depth s′ ≡ suc k = omega arith in
+      let top′ : frameAt s′ k ≡ m = put-frame s k m long (omega arith) in
       rw (d, m′) (record {
         room = room;
         deep = deep′;
         same = ap (λ (n : ℕ). framesAt s′ n) d′
-            ∙ ap₂ (λ (x : Marked) (xs : List Marked). x ∷ xs) (put-frame s k m long (omega arith)) (framesAt-same s s′ k (λ j l. put-others s k m j l) ∙ newest p s f r h .rest);
+            ∙ ap₂ (λ (x : Marked) (xs : List Marked). x ∷ xs) top′ (framesAt-same s s′ k (λ j l. put-others s k m j (omega arith)) ∙ newest p s f r h .rest);
         coherent = (sound, h .coherent .1);
+        fits = fits-after p s s′ k (suc k) (h .fits) deep′ room (λ j o. (put-others s k m j o, (λ low. omega arith, λ far. omega arith)))
+            (λ _. rw top′ (used (rw top at (fitting p s (h .fits) .used k (omega arith))))) (λ past. absurd (omega arith));
       })
+
+  -- marks for a target of the policy
+  enable-used : (t : ℕ) → t < targets p → (f : Frame) → Used p (marked f) → Used p (marked (enable t f))
+  unfolding enable
+  enable-used t l f u = record { signer = u .signer; enabled = with-lt (targets p) (f .enabled) t (u .enabled) l; disabled = u .disabled }
+
+  disable-used : (t : ℕ) → t < targets p → (f : Frame) → Used p (marked f) → Used p (marked (disable t f))
+  unfolding disable
+  disable-used t l f u = record { signer = u .signer; enabled = without-lt (targets p) (f .enabled) t (u .enabled); disabled = with-lt (targets p) (f .disabled) t (u .disabled) l }
+
+  revert-used : (t : ℕ) (f : Frame) → Used p (marked f) → Used p (marked (revert t f))
+  unfolding revert
+  revert-used t f u = record { signer = u .signer; enabled = without-lt (targets p) (f .enabled) t (u .enabled); disabled = u .disabled }
 
   -- the walk's verdict and count
   seen : (t : ℕ) (st : List Frame) → Pictures p s st → walk p t (frames s) ≡ record { granted = granted p t st; looked = walk p t (map marked st) .looked }
@@ -116,13 +159,13 @@ module _ (p s : List ℕ) (long : length s ≡ 190) (ok : Ranges p) where
 
   pub simulate : (op : Operation) → inside p op ≡ true → (st : List Frame) → Pictures p s st → Mirrors (Pictures p) true (stepIn p s op) (step p op st)
   unfolding step markIn callIn returnIn checkIn enable disable revert
-  simulate (Call g) i st h = call-mirrors (Pictures p) true s (depth s) (high p s) p g _ (call-kept g) st h
+  simulate (Call g) i st h = call-mirrors (Pictures p) true s (depth s) (high p s) p g _ (call-kept g (ltb-true g (signers p) i)) st h
   simulate Return i st h = return-mirrors (Pictures p) true s (depth s) (high p s) _ return-kept st h
-  simulate (Enable t) i st h = newest-mirrors (Pictures p) true s (depth s) (high p s) _ (enable t) (λ f r k. mark-kept (Enable t) f (enable t f) r refl (enable-sound p t f r (k .coherent .0) (in-word p ok t i)) k) st h
-  simulate (Disable t) i st h = newest-mirrors (Pictures p) true s (depth s) (high p s) _ (disable t) (λ f r k. mark-kept (Disable t) f (disable t f) r refl (disable-sound p t f r (k .coherent .0) (in-word p ok t i)) k) st h
-  simulate (Revert t) i st h = newest-mirrors (Pictures p) true s (depth s) (high p s) _ (revert t) (λ f r k. mark-kept (Revert t) f (revert t f) r refl (revert-sound p t f r (k .coherent .0)) k) st h
+  simulate (Enable t) i st h = newest-mirrors (Pictures p) true s (depth s) (high p s) _ (enable t) (λ f r k. mark-kept (Enable t) f (enable t f) r refl (enable-used t (ltb-true t (targets p) i) f) (enable-sound p t f r (k .coherent .0) (in-word p ok t i)) k) st h
+  simulate (Disable t) i st h = newest-mirrors (Pictures p) true s (depth s) (high p s) _ (disable t) (λ f r k. mark-kept (Disable t) f (disable t f) r refl (disable-used t (ltb-true t (targets p) i) f) (disable-sound p t f r (k .coherent .0) (in-word p ok t i)) k) st h
+  simulate (Revert t) i st h = newest-mirrors (Pictures p) true s (depth s) (high p s) _ (revert t) (λ f r k. mark-kept (Revert t) f (revert t f) r refl (revert-used t f) (revert-sound p t f r (k .coherent .0)) k) st h
   simulate (Check t) i st h = check-mirrors (Pictures p) true s (depth s) (high p s) p t _ _ (λ f r k. (ap (λ (v : Seen). v .granted) (seen t (f ∷ r) k), ap (λ (v : Seen). v .looked) (seen t (f ∷ r) k))) st h
 
 -- what is exactly given serves the belief sets
-pub served : (p s : List ℕ) → length s ≡ 190 → (op : Operation) (r : Answer) (left : List ℕ) → Gives r left (stepIn p s op) → Serve (Pictures p) true p s op r left (stepIn p s op)
-served p s long op r left g = record { gives = g; serves = λ v i st h. serves-by (Pictures p) true r left _ _ g (simulate p s long (ranges p v) op i st h) }
+pub served : (p s : List ℕ) → length s ≡ 190 → (op : Operation) (r : Answer) (left : List ℕ) → Gives r left (stepIn p s op) → Serve (Pictures p) true 190 p s op r left (stepIn p s op)
+served p s long op r left g = record { gives = g; begins = fresh p; serves = λ v i st h. serves-by (Pictures p) true r left _ _ g (simulate p s long (ranges p v) op i st h) }

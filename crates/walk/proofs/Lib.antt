@@ -1,7 +1,7 @@
 pub mod Frames
 pub mod Turn
 pub mod Agree
+pub mod Fits
 pub mod Kept
 pub mod Exists
 pub mod Unique
-pub mod Fits

@@ -26,7 +26,7 @@ module _ (s : List ℕ) where
     check-unique t r q = one-result
 
     pub serve-unique : (op : Operation) (r q : Answer) (left other : List ℕ)
-        → Serve (Pictures p) true p s op r left (stepIn p s op) → Serve (Pictures p) true p s op q other (stepIn p s op) → (r ≡ q) × (left ≡ other)
+        → Serve (Pictures p) true 190 p s op r left (stepIn p s op) → Serve (Pictures p) true 190 p s op q other (stepIn p s op) → (r ≡ q) × (left ≡ other)
     serve-unique op r q left other h k = gives-unique (stepIn p s op) r q left other (h .gives) (k .gives)
 
     pub valid-unique : (r q : Bool) → r ≡ fits p s → q ≡ fits p s → r ≡ q

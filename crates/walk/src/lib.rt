@@ -202,7 +202,7 @@ fn ask(policy: &[u64; 35], state: &[u64; 190], target: u8) -> Answer
 
 // One operation that the caller has decoded.
 pub fn serve(policy: &[u64; 35], state: &mut [u64; 190], op: Operation) -> Answer
-    ensures { λ r. ⌜ Serve (Pictures (now (policy .entry))) true (now (policy .entry)) (now (state .entry)) op r (now (state .exit)) (stepIn (now (policy .entry)) (now (state .entry)) op) ⌝ }
+    ensures { λ r. ⌜ Serve (Pictures (now (policy .entry))) true 190 (now (policy .entry)) (now (state .entry)) op r (now (state .exit)) (stepIn (now (policy .entry)) (now (state .entry)) op) ⌝ }
 {
     // As a slice, so that its length is known.
     let whole: &[u64] = state;

@@ -71,7 +71,7 @@ returns-4 c =
     let at-decode = at-decoded .before .before in
     let past-if2 = at-decode .before .before .before in
     let past-if1 = past-if2 .before .before .before in
-    done-word _ _ _ _ _ _ _ _ (policy-valid (past-if1)) (state-fits (past-if2)) _ (word-decoded (at-decode)) _ (at-decoded .decoded .given .1) _ _ (c .before .before .serve .ensures) _ (rw (eq-eqb _ _ (c .if3 .taken)))
+    done-word _ _ _ _ _ _ _ _ (policy-valid (past-if1)) (state-fits (past-if2)) _ (word-decoded (at-decode)) _ (at-decoded .decoded .given .1) _ _ _ (c .before .before .serve .ensures) _ (rw (eq-eqb _ _ (c .if3 .taken)))
 
 returns-5 : tie.Need-returns-5
 returns-5 c =
@@ -79,7 +79,7 @@ returns-5 c =
     let at-decode = at-decoded .before .before in
     let past-if2 = at-decode .before .before .before in
     let past-if1 = past-if2 .before .before .before in
-    done-word _ _ _ _ _ _ _ _ (policy-valid (past-if1)) (state-fits (past-if2)) _ (word-decoded (at-decode)) _ (at-decoded .decoded .given .1) _ _ (c .before .before .serve .ensures) _ (rw (ne-eqb _ _ (c .if3 .left)))
+    done-word _ _ _ _ _ _ _ _ (policy-valid (past-if1)) (state-fits (past-if2)) _ (word-decoded (at-decode)) _ (at-decoded .decoded .given .1) _ _ _ (c .before .before .serve .ensures) _ (rw (ne-eqb _ _ (c .if3 .left)))
 
 pub operate-spec : {M : Type 1} → statement M
 operate-spec =

@@ -2,7 +2,6 @@
 use borrow.Author.Needs.{needs}
 use mathlib.Core.Path.{sym, _∙_}
 use mathlib.Core.Bool.{false}
-use Rattle.passed.proofs.Serves.{fresh-pictures}
 use Rattle.runner.proofs.Progress.{at-once, in-the-end}
 use Rattle.runner.proofs.Nested.{whole-run}
 use Rattle.runner.proofs.passed_run.Statement.{statement}
@@ -26,7 +25,7 @@ same-length c = search needs
 returns-2 : tie.Need-returns-2
 returns-2 c =
     let past-if1 = c .before .before .before .before .before in
-    in-the-end false _ _ _ (sym (past-if1 .before .barred-by .ensures) ∙ past-if1 .if1 .left) _ _ _ (whole-run _ _ _ _ _ _ _ _ (rw (c .before .before .before .fresh .ensures) (fresh-pictures _)) (c .before .before .frame-run .ensures))
+    in-the-end false _ _ _ (sym (past-if1 .before .barred-by .ensures) ∙ past-if1 .if1 .left) _ _ _ (whole-run _ _ _ _ _ _ _ _ (c .before .before .before .fresh .ensures .pictures _) (c .before .before .frame-run .ensures))
 
 pub passed-run-spec : {M : Type 1} → statement M
 passed-run-spec =

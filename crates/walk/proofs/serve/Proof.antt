@@ -17,7 +17,7 @@ long : (c : tie.After-whole2) → length (c .before .before .args .state .now) �
 long c = search needs
 
 out : (c : tie.After-whole2) (r : Answer) (left : List ℕ) → Gives r left (stepIn (c .before .before .args .policy .now) (c .before .before .args .state .now) (c .before .before .args .op))
-    → Serve (Pictures (c .before .before .args .policy .now)) true (c .before .before .args .policy .now) (c .before .before .args .state .now) (c .before .before .args .op) r left
+    → Serve (Pictures (c .before .before .args .policy .now)) true 190 (c .before .before .args .policy .now) (c .before .before .args .state .now) (c .before .before .args .op) r left
     (stepIn (c .before .before .args .policy .now) (c .before .before .args .state .now) (c .before .before .args .op))
 out c r left g = served _ _ (long c) _ r left g
 

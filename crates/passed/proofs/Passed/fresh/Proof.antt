@@ -1,0 +1,11 @@
+-- Four zeros are the state without a frame.
+use mathlib.Core.Path.{refl}
+use Rattle.passed.proofs.Serves.{fresh-pictures}
+use Rattle.passed.proofs.Passed.fresh.Statement.{statement}
+use Rattle.passed.proofs.Passed.fresh.Tie as tie
+
+returns : tie.Need-returns
+returns c = record { exact = refl; pictures = fresh-pictures }
+
+pub fresh-spec : {M : Type 1} → statement M
+fresh-spec = tie.close (tie.spec returns)
