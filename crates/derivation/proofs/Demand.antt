@@ -1,34 +1,31 @@
--- Derivations against the walk and against the belief sets: one is accepted exactly where the check is granted, ours is, and none that is accepted is shorter. Assumes nothing.
+-- Derivations against the walk: one is accepted exactly where the check is granted, ours is, and none that is accepted is shorter; of frames, and of what the
+-- checker and the writer report of a walk state. Assumes nothing.
 use mathlib.Core.Path.{_≡_, refl, sym, ap, _∙_}
-use mathlib.Core.Logic.{_↔_}
+use mathlib.Core.Logic.{_≢_}
 use mathlib.Core.Bool.{Bool, true, false, cond, _&&_, _||_}
 use mathlib.Core.Option.{Option, some, none, Option·elim}
-use mathlib.Core.List.{List, [], _∷_, map}
+use mathlib.Core.List.{List, [], _∷_}
 use Prim.Native.Nat.{ℕ, suc, _+_, _*_, _≤_, _<_}
 use native.Mathlib.Nat.{zero-add}
 use native.Mathlib.Omega.{arith}
 use lib.Dec.{eqb, ltb}
-use lib.ListN.{length, length-map}
-use borrow.Author.Tests.{lt-ltb, ltb-true}
+use lib.ListN.{length, getD}
+use borrow.Author.Tests.{eqb-true, eqb-false, ne-eqb, lt-ltb, le-ltb, ltb-false}
 use Rattle.beliefs.specs.declared.Marked.{Marked}
-use Rattle.beliefs.specs.declared.Operation.{Operation}
-use Rattle.beliefs.specs.declared.Operation.the-variants.{Call, Return, Enable, Disable, Revert, Check}
 use Rattle.beliefs.specs.Lists.{empty}
-use Rattle.beliefs.specs.Numbers.{notAllowed, notEmpty, tooDeep}
+use Rattle.beliefs.specs.Numbers.{notAllowed, notEmpty, noRoom, forbidden}
 use Rattle.beliefs.specs.Account.{Account, told}
 use Rattle.beliefs.specs.Policy.{targets, valid}
-use Rattle.beliefs.specs.Stack.{Frame, marked, granted, walk, called, enable, disable, revert}
-use Rattle.beliefs.specs.Trace.{refuse, done, byNewest, step}
-use Rattle.beliefs.specs.Engine.{inside}
-use Rattle.beliefs.specs.Derivation.{Entry, rule, follow, judge, judged, ours}
-use Rattle.beliefs.proofs.Policy.{Ranges, ranges, in-word}
-use Rattle.walk.specs.Coherent.{Sound, Coherent}
-use Rattle.walk.proofs.Agree.{agree, enable-sound, disable-sound, revert-sound, call-sound}
+use Rattle.beliefs.specs.Stack.{walk}
+use Rattle.beliefs.specs.Derivation.{Entry, rule, follow, judge, ours, shown}
 use Rattle.beliefs.proofs.Counts.{looked-le}
-use Rattle.derivation.specs.Reached.{Reached, fresh, moved}
+use Rattle.walk.specs.State.{depth, frames, fits}
+use Rattle.walk.proofs.Frames.{framesAt-length}
+use Rattle.derivation.specs.Promise.{barred, checking, writing}
 use Rattle.derivation.proofs.Deciding.{granted-stands, stands-granted}
 use Rattle.derivation.proofs.Accepted.{accepted-shows}
-use Rattle.derivation.proofs.Ours.{ours-length, ours-accepted}
+use Rattle.derivation.proofs.Judged.{empty-frames, check-barred, check-judged, write-barred, written}
+use Rattle.derivation.proofs.Ours.{ours-accepted}
 
 module _ (p : List ℕ) (t : ℕ) (ms : List Marked) where
   -- where the walk grants, ours is accepted, with three steps for each frame looked at and the take
@@ -63,70 +60,73 @@ module _ (p : List ℕ) (t : ℕ) (ms : List Marked) where
       go none ih k = absurd (omega arith)
       go (some l) ih k = omega (arith, ih l k)
 
--- every stack that is reached is coherent, and has at most 63 frames
-pub record Kept (p : List ℕ) (st : List Frame) : Type 0 where
-  pub coherent : Coherent p st
-  pub room : length st ≤ 63
+-- a valid policy, a state that number 14 lets through, a frame and a target of the policy: nothing bars a report on the steps
+pub unbarred : (p s : List ℕ) (t : ℕ) → valid p ≡ true → fits p s ≡ true → getD s 0 0 ≢ 0 → t < targets p → barred p s t ≡ 0
+unfolding barred
+unbarred p s t v f d l = rw (v, f, lt-ltb t (targets p) l, empty-frames s (depth s), ne-eqb (depth s) 0 (omega arith))
 
-module _ (p : List ℕ) (ok : Ranges p) where
-  by-newest : (g : Frame → Frame) → ((f : Frame) (r : List Frame) → Sound p f r → Sound p (g f) r) → (st : List Frame) → Kept p st → Kept p (byNewest g st .stack)
-  by-newest g k [] h = h
-  by-newest g k (f ∷ r) h = record { coherent = (k f r (h .coherent .0), h .coherent .1); room = h .room }
+-- a report of 0 was not barred
+not-barred : (p s : List ℕ) (t : ℕ) (a : Account) → a .number ≡ 0 → (barred p s t ≢ 0 → a ≡ told (barred p s t) 0) → barred p s t ≡ 0
+not-barred p s t a z h = go (eqb (barred p s t) 0) refl
+  where
+    go : (e : Bool) → eqb (barred p s t) 0 ≡ e → barred p s t ≡ 0
+    go true q = eqb-true (barred p s t) 0 q
+    go false q = sym (ap (λ (x : Account). x .number) (h (eqb-false (barred p s t) 0 q))) ∙ z
 
-  kept : (op : Operation) → inside p op ≡ true → (st : List Frame) → Kept p st → Kept p (step p op st .stack)
-  unfolding step
-  kept (Call s) i st h = go (ltb (length st) 63) refl
-    where
-      go : (e : Bool) → ltb (length st) 63 ≡ e → Kept p (cond e (done (called p s st ∷ st)) (refuse tooDeep st) .stack)
-      go true q = record { coherent = (call-sound p s st (ok .targets-most), h .coherent); room = ltb-true _ _ q }
-      go false q = h
-  kept Return i [] h = h
-  kept Return i (f ∷ r) h = record { coherent = h .coherent .1; room = omega (arith, h .room) }
-  kept (Enable t) i st h = by-newest (enable t) (λ f r k. enable-sound p t f r k (in-word p ok t i)) st h
-  kept (Disable t) i st h = by-newest (disable t) (λ f r k. disable-sound p t f r k (in-word p ok t i)) st h
-  kept (Revert t) i st h = by-newest (revert t) (λ f r k. revert-sound p t f r k) st h
-  kept (Check t) i [] h = h
-  kept (Check t) i (f ∷ r) h = h
+module _ (p s : List ℕ) (t : ℕ) where
+  abbrev looked : ℕ
+  looked = walk p t (frames s) .looked
 
-  reached-kept : (st : List Frame) → Reached p st → Kept p st
-  reached-kept [] fresh = record { coherent = tt; room = omega arith }
-  reached-kept st (moved op r i n) = kept op i _ (reached-kept _ r)
+  pub looked-few : looked ≤ 63
+  looked-few = omega (arith, looked-le p t (frames s), framesAt-length s (depth s))
 
-pub reached : (p : List ℕ) → valid p ≡ true → (st : List Frame) → Reached p st → Kept p st
-reached p v st r = reached-kept p (ranges p v) st r
+  -- where the walk grants, the checker accepts ours, with 3n + 1 as its figure
+  pub ours-checked : barred p s t ≡ 0 → walk p t (frames s) .granted ≡ true → checking p s t (ours looked) ≡ told 0 (3 * looked + 1)
+  ours-checked b g = check-judged p s t b (ours looked) ∙ granted-ours p t (frames s) (omega (arith, framesAt-length s (depth s))) g
 
--- demand 3, in a stack with a frame: for a target, with n the number of frames that the walk looks at
-pub record Settled (p : List ℕ) (t : ℕ) (st : List Frame) (n : ℕ) : Type 0 where
-  -- some steps are accepted exactly when the belief sets grant the check
-  pub exactly : ((steps : List ℕ) × (judged p (map marked st) t steps .number ≡ 0)) ↔ (granted p t st ≡ true)
-  -- where they do, ours are, 3 * n + 1 of them
-  pub ours-pass : granted p t st ≡ true → judged p (map marked st) t (ours n) ≡ told 0 (3 * n + 1)
-  pub ours-count : length (ours n) ≡ 3 * n + 1
-  -- and none that are accepted are fewer
-  pub none-shorter : (steps : List ℕ) → judged p (map marked st) t steps .number ≡ 0 → 3 * n + 1 ≤ length steps
-  -- the figure reported for accepted steps is their number
-  pub figure : (steps : List ℕ) → judged p (map marked st) t steps .number ≡ 0 → judged p (map marked st) t steps .figure ≡ length steps
+  -- whatever steps it accepts, the walk grants; they are at least 3n + 1, and the figure is their number
+  module _ (steps : List ℕ) (z : checking p s t steps .number ≡ 0) where
+    judged-here : checking p s t steps ≡ judge p (frames s) t false 0 [] steps
+    judged-here = check-judged p s t (not-barred p s t (checking p s t steps) z (λ no. check-barred p s t _ refl no steps)) steps
 
--- of a target of the policy, in a stack with a frame, the steps alone are judged
-judged-steps : (p : List ℕ) (t : ℕ) (f : Frame) (r : List Frame) (steps : List ℕ) → t < targets p → judged p (map marked (f ∷ r)) t steps ≡ judge p (map marked (f ∷ r)) t false 0 [] steps
-unfolding judged
-judged-steps p t f r steps h = rw (lt-ltb t (targets p) h)
+    accepts : judge p (frames s) t false 0 [] steps .number ≡ 0
+    accepts = rw judged-here at z
 
--- in every stack that is reached under a valid policy
-pub settled : (p : List ℕ) → valid p ≡ true → (f : Frame) (r : List Frame) → Reached p (f ∷ r) → (t : ℕ) → t < targets p
-    → Settled p t (f ∷ r) (walk p t (map marked (f ∷ r)) .looked)
-settled p v f r reach t l =
-    let st : List Frame = f ∷ r in
-    let ms : List Marked = map marked st in
-    let k = reached p v st reach in
-    let room : length ms ≤ 63 = rw (length-map st marked) (k .room) in
-    let same : granted p t st ≡ walk p t ms .granted = agree p t st (k .coherent) in
-    let passes : granted p t st ≡ true → judged p ms t (ours (walk p t ms .looked)) ≡ told 0 (3 * walk p t ms .looked + 1) =
-    λ g. judged-steps p t f r (ours (walk p t ms .looked)) l ∙ granted-ours p t ms room (sym same ∙ g) in
-    record {
-      exactly = (λ s. same ∙ accepted-granted p t ms (s .0) (rw (judged-steps p t f r (s .0) l) at (s .1)), λ g. (ours (walk p t ms .looked), ap (λ (a : Account). a .number) (passes g)));
-      ours-pass = passes;
-      ours-count = ours-length (walk p t ms .looked);
-      none-shorter = λ steps h. no-shorter p t ms steps (rw (judged-steps p t f r steps l) at h);
-      figure = λ steps h. rw (judged-steps p t f r steps l) (accepted-figure p t ms steps false 0 [] (rw (judged-steps p t f r steps l) at h) ∙ zero-add (length steps));
-    }
+    pub checked-granted : walk p t (frames s) .granted ≡ true
+    checked-granted = accepted-granted p t (frames s) steps accepts
+
+    pub checked-enough : 3 * looked + 1 ≤ length steps
+    checked-enough = no-shorter p t (frames s) steps accepts
+
+    pub checked-figure : checking p s t steps .figure ≡ length steps
+    checked-figure = rw judged-here (accepted-figure p t (frames s) steps false 0 [] accepts ∙ zero-add (length steps))
+
+  -- the writer, where nothing bars it, the walk grants and there is room
+  pub ours-written : (room : ℕ) → barred p s t ≡ 0 → walk p t (frames s) .granted ≡ true → 3 * looked + 1 ≤ room
+      → writing p s t room ≡ record { number = 0; figure = 3 * looked + 1; written = ours looked }
+  ours-written room b g l = written p s t b _ refl room ∙ rw (g, le-ltb room (3 * looked + 1) l)
+
+  -- and only there does it report 0
+  module _ (room : ℕ) (z : writing p s t room .number ≡ 0) where
+    pub written-unbarred : barred p s t ≡ 0
+    written-unbarred = not-barred p s t (writing p s t room) z (λ no. write-barred p s t _ refl no room)
+
+    abbrev tried : Account
+    tried = cond (walk p t (frames s) .granted) (shown looked room) (told forbidden 0)
+
+    was : tried .number ≡ 0
+    was = rw (written p s t written-unbarred _ refl room) at z
+
+    pub written-granted : walk p t (frames s) .granted ≡ true
+    written-granted = go (walk p t (frames s) .granted) was
+      where
+        go : (e : Bool) → cond e (shown looked room) (told forbidden 0) .number ≡ 0 → e ≡ true
+        go true k = refl
+        go false k = absurd (omega arith)
+
+    pub written-room : 3 * looked + 1 ≤ room
+    written-room = go (ltb room (3 * looked + 1)) refl (rw written-granted at was)
+      where
+        go : (e : Bool) → ltb room (3 * looked + 1) ≡ e → cond e (told noRoom 0) (record { number = 0; figure = 3 * looked + 1; written = ours looked }) .number ≡ 0 → 3 * looked + 1 ≤ room
+        go true q k = absurd (omega arith)
+        go false q k = ltb-false room (3 * looked + 1) q

@@ -121,7 +121,7 @@ module _ (p s : List ℕ) (t : ℕ) (through : barred p s t ≡ 0) where
   check-judged steps = let-through p s t (judge p (frames s) t false 0 [] steps) through
 
   module _ (seen : Seen) (e : seen ≡ walk p t (frames s)) (room : ℕ) where
-    written : writing p s t room ≡ cond (seen .granted) (shown (seen .looked) room) (told forbidden 0)
+    pub written : writing p s t room ≡ cond (seen .granted) (shown (seen .looked) room) (told forbidden 0)
     unfolding writing derived
     written = rw e (let-through p s t (cond (walk p t (frames s) .granted) (shown (walk p t (frames s) .looked) room) (told forbidden 0)) through)
 

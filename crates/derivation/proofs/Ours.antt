@@ -6,12 +6,13 @@ use mathlib.Core.List.{List, [], _∷_, _++_, map, append-assoc}
 use Prim.Native.Nat.{ℕ, zero, suc, _+_, _-_, _*_, _/_, _%_, _≤_, _<_}
 use native.Mathlib.Numerals.{add-one}
 use native.Mathlib.Omega.{arith}
-use lib.ListN.{length, take, set, replicate, length-append, length-replicate}
+use lib.ListN.{length, getD, take, set, replicate, length-append, length-replicate}
 use lib.Seq.{sets, length-take-le}
 use Rattle.beliefs.specs.declared.Marked.{Marked}
 use Rattle.beliefs.specs.Account.{told}
 use Rattle.beliefs.specs.Policy.{permits}
 use Rattle.beliefs.specs.Derivation.{Entry, frame, signer, target, mayTake, taken, spoken, allowed, atPlace, dropFrom, follow, judge, atPlaces, ours}
+use Rattle.policy.specs.Read.{Bytes}
 use Rattle.beliefs.proofs.Lists.{sets-more}
 use Rattle.beliefs.proofs.Policy.{both}
 use Rattle.derivation.proofs.Deciding.{speak, Stands, may-within}
@@ -31,6 +32,30 @@ ours-length n =
       atPlaces-length 2 0 n,
       length-replicate {A = ℕ} n 192,
     )
+
+-- each step of ours is a byte
+module _ (n : ℕ) (few : n ≤ 63) where
+  places-bytes : (r k m : ℕ) → r ≤ 3 → k + m ≤ n → (i : ℕ) → getD (atPlaces r k m) i 0 < 256
+  places-bytes r k zero a b i = omega arith
+  places-bytes r k (suc m) a b zero = omega arith
+  places-bytes r k (suc m) a b (suc i) = places-bytes r (suc k) m a (omega arith) i
+
+  drops-bytes : (m i : ℕ) → getD {A = ℕ} (replicate m 192) i 0 < 256
+  drops-bytes zero i = omega arith
+  drops-bytes (suc m) zero = omega arith
+  drops-bytes (suc m) (suc i) = drops-bytes m i
+
+  append-bytes : (l m : List ℕ) → Bytes l → Bytes m → Bytes (l ++ m)
+  append-bytes [] m a b i = b i
+  append-bytes (x ∷ l) m a b zero = a zero
+  append-bytes (x ∷ l) m a b (suc i) = append-bytes l m (λ j. a (suc j)) b i
+
+  pub ours-bytes : Bytes (ours n)
+  unfolding ours
+  ours-bytes zero = omega arith
+  ours-bytes (suc i) =
+      append-bytes (atPlaces 1 0 n) (atPlaces 2 0 n ++ replicate n 192) (places-bytes 1 0 n (omega arith) (omega arith))
+      (append-bytes (atPlaces 2 0 n) (replicate n 192) (places-bytes 2 0 n (omega arith) (omega arith)) (drops-bytes n)) i
 
 -- the writer's loops: the step at k, and those after it
 pub places-next : (r k n : ℕ) → k < n → atPlaces r k (n - k) ≡ (r * 64 + k) ∷ atPlaces r (k + 1) (n - (k + 1))

@@ -1,3 +1,2 @@
 pub mod Chain
 pub mod Promise
-pub mod Reached
