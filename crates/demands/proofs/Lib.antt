@@ -1,2 +1,5 @@
+pub mod Exported
 pub mod Refused
+pub mod Live
+pub mod Nested
 pub mod Demands

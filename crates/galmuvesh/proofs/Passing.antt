@@ -1,4 +1,4 @@
--- An operation on the four words of a passed state serves the belief sets: where it leads pictures the stack after it, and a refusal
+-- An operation on the four words of a passed state serves the belief sets: where it leads pictures the stack after it, and passes number 14; a refusal
 -- leaves both as they were. Assumes nothing.
 use mathlib.Core.Path.{_≡_, refl, sym, ap, _∙_}
 use mathlib.Core.Logic.{_≢_}
@@ -17,6 +17,7 @@ use Rattle.beliefs.specs.Trace.{refuse, done, step}
 use Rattle.beliefs.specs.Engine.{inside, verdictByte}
 use Rattle.passed.specs.declared.Next.the-variants.{Refused}
 use Rattle.passed.specs.State.{checkOf, unless, ledTo, passedFits, refusalOf, operateOf}
+use Rattle.passed.proofs.Kept.{Fit, operate-fits}
 use Rattle.passed.specs.Picture.{PassedOf, Goes}
 use Rattle.passed.proofs.Serves.{operates}
 use Rattle.galmuvesh.specs.Boundary.{passedIn, wordsOf, after, Follows, Moves, Says, Asks}
@@ -96,6 +97,22 @@ module _ (p s : List ℕ) where
     answer = rw a at b;
     serves = λ v f i st h. rw (b, a) (says p s st h (refusalOf p (passedIn s) (Check t)) t lent (eqb (refusalOf p (passedIn s) (Check t)) 0) refl (goes (Check t) v f i st h));
   })
+
+-- an accepted operation leaves words that number 14 lets through
+led-fit : (p s : List ℕ) (op : Operation) → returns op ≡ false → Fit p (ledTo p (passedIn s) op) → passedFits p (after p (passedIn s) op) ≡ true
+unfolding ledTo
+led-fit p s (Call g) e f = f
+led-fit p s Return e f = never e
+led-fit p s (Enable t) e f = f
+led-fit p s (Disable t) e f = f
+led-fit p s (Revert t) e f = f
+led-fit p s (Check t) e f = f
+
+pub moved-fits : (p s : List ℕ) (op : Operation) → returns op ≡ false → (left : List ℕ) → Moves p s op 0 left → passedFits p (passedIn left) ≡ true
+unfolding operateOf
+moved-fits p s op r left h =
+    let none : refusalOf p (passedIn s) op ≡ 0 = sym (h .number) in
+    rw (h .state, none) (led-fit p s op r (rw none at (operate-fits p (passedIn s) op)))
 
 -- "A refused operation changes no state": nor does it write an answer byte
 pub passed-refused : (p s : List ℕ) (op : Operation) (n : ℕ) (left : List ℕ) → Moves p s op n left → n ≢ 0 → left ≡ s

@@ -18,6 +18,7 @@ use Rattle.beliefs.specs.declared.Operation.the-variants.{Call, Return, Enable,
 use Rattle.beliefs.specs.Numbers.{badPolicy, badState}
 use Rattle.beliefs.specs.Policy.{signers, targets, row, valid}
 use Rattle.beliefs.specs.Stack.{startMarks}
+use Rattle.beliefs.specs.Engine.{inside}
 use Rattle.passed.specs.declared.Passed.{Passed}
 use Rattle.passed.specs.declared.Next.{Next}
 use Rattle.passed.specs.declared.Next.the-variants.{Stay, Down, Up, Refused}
@@ -91,13 +92,34 @@ pub fresh-fits : (p : List ℕ) → passedFits p fresh ≡ true
 unfolding passedFits
 fresh-fits p = refl
 
-pub operate-fits : (p : List ℕ) (s : Passed) (op : Operation) → Fit p (operateOf p s op)
-unfolding operateOf refusalOf
-operate-fits p s op = unless-fits p (ledTo p s op) (refusalOf p s op) (go (valid p) refl (passedFits p s) refl (eqb (outsideOf p op) 0) refl)
+-- what nothing refuses: 13, 14, 5 or 6, 7, 8 have all passed
+pub record Through (p : List ℕ) (s : Passed) (op : Operation) : Type 0 where
+  pub policy : valid p ≡ true
+  pub state : passedFits p s ≡ true
+  pub outside : outsideOf p op ≡ 0
+  pub barred : barredOf (s .depth) op ≡ 0
+
+pub through : (p : List ℕ) (s : Passed) (op : Operation) → refusalOf p s op ≡ 0 → Through p s op
+unfolding refusalOf
+through p s op = go (valid p) refl (passedFits p s) refl (eqb (outsideOf p op) 0) refl
   where
     go : (v : Bool) → valid p ≡ v → (f : Bool) → passedFits p s ≡ f → (o : Bool) → eqb (outsideOf p op) 0 ≡ o
-        → cond v (cond f (cond o (barredOf (s .depth) op) (outsideOf p op)) badState) badPolicy ≡ 0 → Fit p (ledTo p s op)
+        → cond v (cond f (cond o (barredOf (s .depth) op) (outsideOf p op)) badState) badPolicy ≡ 0 → Through p s op
     go false q f z o w e = absurd (omega arith)
     go true q false z o w e = absurd (omega arith)
     go true q true z false w e = absurd (eqb-false (outsideOf p op) 0 w e)
-    go true q true z true w e = led-fits p s (ranges p q .targets-most) z op (eqb-true (outsideOf p op) 0 w) e
+    go true q true z true w e = record { policy = q; state = z; outside = eqb-true (outsideOf p op) 0 w; barred = e }
+
+-- neither 5 nor 6: an operation of the policy's signers and targets
+pub not-outside : (p : List ℕ) (op : Operation) → outsideOf p op ≡ 0 → inside p op ≡ true
+unfolding outsideOf
+not-outside p (Call g) o = met (ltb g (signers p)) 4 0 o .0
+not-outside p Return o = refl
+not-outside p (Enable t) o = met (ltb t (targets p)) 5 0 o .0
+not-outside p (Disable t) o = met (ltb t (targets p)) 5 0 o .0
+not-outside p (Revert t) o = met (ltb t (targets p)) 5 0 o .0
+not-outside p (Check t) o = met (ltb t (targets p)) 5 0 o .0
+
+pub operate-fits : (p : List ℕ) (s : Passed) (op : Operation) → Fit p (operateOf p s op)
+unfolding operateOf
+operate-fits p s op = unless-fits p (ledTo p s op) (refusalOf p s op) (λ e. let h = through p s op e in led-fits p s (ranges p (h .policy) .targets-most) (h .state) op (h .outside) (h .barred))

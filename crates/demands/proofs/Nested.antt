@@ -1,0 +1,146 @@
+-- Passed states that a host nests picture the definition's stack, the newest frame's words all of it and each caller's the frames from that caller down: so number 13 and 14 never come, and
+-- each answer is the definition's. Assumes nothing.
+use mathlib.Core.Path.{_≡_, refl, sym, ap, _∙_}
+use mathlib.Core.Logic.{_≢_}
+use mathlib.Core.Bool.{Bool, true, false, cond}
+use mathlib.Core.List.{List, [], _∷_}
+use Prim.Native.Nat.{ℕ, suc, _≤_}
+use native.Mathlib.Omega.{arith}
+use lib.Dec.{eqb, ltb}
+use lib.ListN.{length}
+use Rattle.bits.proofs.Laws.{never}
+use Rattle.beliefs.specs.declared.Operation.{Operation}
+use Rattle.beliefs.specs.declared.Operation.the-variants.{Call, Return, Enable, Disable, Revert, Check}
+use Rattle.beliefs.specs.Policy.{signers, targets, valid}
+use Rattle.beliefs.specs.Stack.{Frame, called}
+use Rattle.beliefs.specs.Trace.{refuse, done, step}
+use Rattle.beliefs.specs.Engine.{inside}
+use Rattle.beliefs.proofs.Refusals.{at-most}
+use Rattle.passed.specs.declared.Passed.{Passed}
+use Rattle.passed.specs.State.{passedFits, outsideOf, barredOf, refusalOf}
+use Rattle.passed.specs.Picture.{PassedOf, below}
+use Rattle.passed.proofs.Kept.{fresh-fits, through, not-outside}
+use Rattle.passed.proofs.Serves.{fresh-pictures}
+use Rattle.galmuvesh.specs.Boundary.{passedIn, Follows, Moves, Says, Asks}
+use Rattle.galmuvesh.proofs.Passing.{returns, moved-fits}
+use Rattle.demands.specs.Live.{Reached, fresh, moved, PassedLived, zeros, call, enable, disable, revert, back}
+
+-- one state's words, and the frames that they picture
+pub record Known (p s : List ℕ) (st : List Frame) : Type 0 where
+  pub let-through : passedFits p (passedIn s) ≡ true
+  pub pictures : PassedOf p (passedIn s) st
+
+-- all of them, the newest first
+abbrev Kept : List ℕ → List (List ℕ) → List Frame → Type 0
+Kept p [] st = Unit {0}
+Kept p (s ∷ kept) st = Known p s st × Kept p kept (below st)
+
+-- a state for each frame, and the zeros below
+pub record Nest (p : List ℕ) (states : List (List ℕ)) (st : List Frame) : Type 0 where
+  pub count : length states ≡ suc (length st)
+  pub known : Kept p states st
+  pub reached : Reached p st
+
+-- what an accepted operation leaves of the frames below the newest
+call-over : (p : List ℕ) (g : ℕ) (st : List Frame) → step p (Call g) st .number ≡ 0 → step p (Call g) st .stack ≡ called p g st ∷ st
+unfolding step
+call-over p g st = go (ltb (length st) 63)
+  where
+    go : (e : Bool) → cond e (done (called p g st ∷ st)) (refuse 8 st) .number ≡ 0 → cond e (done (called p g st ∷ st)) (refuse 8 st) .stack ≡ called p g st ∷ st
+    go true z = refl
+    go false z = absurd (omega arith)
+
+abbrev marks : Operation → Bool
+marks (Call g) = false
+marks Return = false
+marks (Enable t) = true
+marks (Disable t) = true
+marks (Revert t) = true
+marks (Check t) = false
+
+marks-stay : (op : Operation) → marks op ≡ true → returns op ≡ false
+marks-stay (Call g) m = refl
+marks-stay Return m = never (sym m)
+marks-stay (Enable t) m = refl
+marks-stay (Disable t) m = refl
+marks-stay (Revert t) m = refl
+marks-stay (Check t) m = refl
+
+mark-over : (p : List ℕ) (op : Operation) → marks op ≡ true → (st : List Frame) → (below (step p op st .stack) ≡ below st) × (length (step p op st .stack) ≡ length st)
+unfolding step
+mark-over p (Call g) m st = never (sym m)
+mark-over p Return m st = never (sym m)
+mark-over p (Enable t) m [] = (refl, refl)
+mark-over p (Enable t) m (f ∷ r) = (refl, refl)
+mark-over p (Disable t) m [] = (refl, refl)
+mark-over p (Disable t) m (f ∷ r) = (refl, refl)
+mark-over p (Revert t) m [] = (refl, refl)
+mark-over p (Revert t) m (f ∷ r) = (refl, refl)
+mark-over p (Check t) m st = never (sym m)
+
+module _ (p : List ℕ) (v : valid p ≡ true) where
+  -- an accepted operation by the newest frame: its words then picture the stack after it, which is reached
+  module _ (s : List ℕ) (st : List Frame) (k : Known p s st) (op : Operation) (stays : returns op ≡ false) (left : List ℕ) (h : Moves p s op 0 left) where
+    here : inside p op ≡ true
+    here = not-outside p op (through p (passedIn s) op (sym (h .number)) .outside)
+
+    follows : Follows p 0 left (step p op st)
+    follows = h .serves v (k .let-through) here st (k .pictures)
+
+    now-known : Known p left (step p op st .stack)
+    now-known = record { let-through = moved-fits p s op stays left h; pictures = follows .pictures }
+
+    now-reached : Reached p st → Reached p (step p op st .stack)
+    now-reached r = moved op r here (sym (follows .number))
+
+  marked : (s : List ℕ) (kept : List (List ℕ)) (st : List Frame) → Nest p (s ∷ kept) st → (op : Operation) → marks op ≡ true → (left : List ℕ) → Moves p s op 0 left → Nest p (left ∷ kept) (step p op st .stack)
+  marked s kept st n op m left h =
+      let over = mark-over p op m st in
+      record {
+        count = n .count ∙ ap suc (sym (over .1));
+        known = (now-known s st (n .known .0) op (marks-stay op m) left h, rw (over .0) (n .known .1));
+        reached = now-reached s st (n .known .0) op (marks-stay op m) left h (n .reached);
+      }
+
+  returned : (s caller : List ℕ) (kept : List (List ℕ)) (st : List Frame) → Nest p (s ∷ caller ∷ kept) st → Nest p (caller ∷ kept) (step p Return st .stack)
+  unfolding step
+  returned s caller kept [] n = absurd (omega (arith, n .count))
+  returned s caller kept (f ∷ r) n = record { count = omega (arith, n .count); known = n .known .1; reached = moved Return (n .reached) refl refl }
+
+  pub nested : (states : List (List ℕ)) (st : List Frame) → PassedLived p states st → Nest p states st
+  nested states st zeros = record { count = refl; known = (record { let-through = fresh-fits p; pictures = fresh-pictures p }, tt); reached = fresh }
+  nested states st (call {s} {kept} {st₀} g left l h) =
+      let n : Nest p (s ∷ kept) st₀ = nested (s ∷ kept) st₀ l in
+      let over : step p (Call g) st₀ .stack ≡ called p g st₀ ∷ st₀ = call-over p g st₀ (sym (follows s st₀ (n .known .0) (Call g) refl left h .number)) in
+      record {
+        count = rw over (ap suc (n .count));
+        known = (now-known s st₀ (n .known .0) (Call g) refl left h, rw over (n .known));
+        reached = now-reached s st₀ (n .known .0) (Call g) refl left h (n .reached);
+      }
+  nested states st (enable {s} {kept} {st₀} t left l h) = marked s kept st₀ (nested (s ∷ kept) st₀ l) (Enable t) refl left h
+  nested states st (disable {s} {kept} {st₀} t left l h) = marked s kept st₀ (nested (s ∷ kept) st₀ l) (Disable t) refl left h
+  nested states st (revert {s} {kept} {st₀} t left l h) = marked s kept st₀ (nested (s ∷ kept) st₀ l) (Revert t) refl left h
+  nested states st (back {s} {caller} {kept} {st₀} l) = returned s caller kept st₀ (nested (s ∷ caller ∷ kept) st₀ l)
+
+-- an operation on such words is refused by 8 at most
+outside-number : (p : List ℕ) (op : Operation) → outsideOf p op ≤ 8
+unfolding outsideOf
+outside-number p (Call g) = at-most (ltb g (signers p)) (omega arith) (omega arith)
+outside-number p Return = omega arith
+outside-number p (Enable t) = at-most (ltb t (targets p)) (omega arith) (omega arith)
+outside-number p (Disable t) = at-most (ltb t (targets p)) (omega arith) (omega arith)
+outside-number p (Revert t) = at-most (ltb t (targets p)) (omega arith) (omega arith)
+outside-number p (Check t) = at-most (ltb t (targets p)) (omega arith) (omega arith)
+
+barred-number : (depth : ℕ) (op : Operation) → barredOf depth op ≤ 8
+unfolding barredOf
+barred-number depth (Call g) = at-most (ltb depth 63) (omega arith) (omega arith)
+barred-number depth Return = at-most (eqb depth 0) (omega arith) (omega arith)
+barred-number depth (Enable t) = at-most (eqb depth 0) (omega arith) (omega arith)
+barred-number depth (Disable t) = at-most (eqb depth 0) (omega arith) (omega arith)
+barred-number depth (Revert t) = at-most (eqb depth 0) (omega arith) (omega arith)
+barred-number depth (Check t) = at-most (eqb depth 0) (omega arith) (omega arith)
+
+pub refusal-number : (p : List ℕ) (s : Passed) (op : Operation) → valid p ≡ true → passedFits p s ≡ true → refusalOf p s op ≤ 8
+unfolding refusalOf
+refusal-number p s op v f = rw (v, f) (at-most (eqb (outsideOf p op) 0) (barred-number (s .depth) op) (outside-number p op))
