@@ -1,17 +1,12 @@
 -- Each promise fixes its report and the bytes left: of two that both keep it, one is the other. Assumes nothing.
-use mathlib.Core.Path.{_≡_}
-use mathlib.Core.List.{List}
-use Prim.Native.Nat.{ℕ}
-use lib.ListN.{length}
-use Rattle.bits.proofs.Unique.{one-result}
-use Rattle.beliefs.specs.declared.Report.{Report}
-use Rattle.beliefs.specs.Account.{Reports}
+use mathlib.Core.Path.{refl}
+use Rattle.bits.proofs.Unique.{Fixes, one-result}
 use Rattle.beliefs.proofs.Unique.{reports-unique}
-use Rattle.derivation.specs.Promise.{checking, writing, Tells}
+use Rattle.derivation.proofs.check as check
+use Rattle.derivation.proofs.write as write
 
-module _ (p s : List ℕ) (t : ℕ) where
-  pub check-unique : (steps : List ℕ) (r q : Report) → Tells r (checking p s t steps) → Tells q (checking p s t steps) → r ≡ q
-  check-unique steps r q h k = λ i. record { number = one-result (h .number) (k .number) i; figure = one-result (h .figure) (k .figure) i }
+pub check-unique : Fixes check.ended check.Reads.Post
+check-unique _ _ _ _ _ _ h k = (λ i. record { number = one-result (h .number) (k .number) i; figure = one-result (h .figure) (k .figure) i }, refl)
 
-  pub write-unique : (lent left other : List ℕ) (r q : Report) → Reports r lent left (writing p s t (length lent)) → Reports q lent other (writing p s t (length lent)) → (r ≡ q) × (left ≡ other)
-  write-unique lent left other r q = reports-unique lent (writing p s t (length lent)) r q left other
+pub write-unique : Fixes write.ended write.Reads.Post
+write-unique _ _ _ _ _ _ = reports-unique (λ w. (tt, (tt, (tt, (w, tt)))))

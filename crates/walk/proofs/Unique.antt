@@ -1,38 +1,27 @@
 -- Each promise fixes its result and the words left: of two that both keep it, one is the other. Assumes nothing.
-use mathlib.Core.Path.{_≡_}
-use mathlib.Core.Bool.{Bool, true}
-use mathlib.Core.List.{List}
-use Prim.Native.Nat.{ℕ}
-use Rattle.bits.proofs.Unique.{one-result}
-use Rattle.beliefs.specs.declared.Answer.{Answer}
-use Rattle.beliefs.specs.declared.Marked.{Marked}
-use Rattle.beliefs.specs.declared.Seen.{Seen}
-use Rattle.beliefs.specs.declared.Operation.{Operation}
-use Rattle.beliefs.specs.Stack.{walk}
-use Rattle.beliefs.specs.Engine.{Serve, guarded, Operate}
+use Rattle.bits.proofs.Unique.{Fixes, alone}
 use Rattle.beliefs.proofs.Unique.{gives-unique, operated-unique}
-use Rattle.walk.specs.State.{depth, frameAt, frames, fits, stepIn}
-use Rattle.walk.specs.Coherent.{Pictures}
+use Rattle.walk.proofs.depth as depth
+use Rattle.walk.proofs.frame_at as frame-at
+use Rattle.walk.proofs.check as check
+use Rattle.walk.proofs.serve as serve
+use Rattle.walk.proofs.valid as valid
+use Rattle.walk.proofs.operate as operate
 
-module _ (s : List ℕ) where
-  pub depth-unique : (r q : ℕ) → r ≡ depth s → q ≡ depth s → r ≡ q
-  depth-unique r q = one-result
+pub depth-unique : Fixes depth.ended depth.Reads.Post
+depth-unique _ _ _ _ _ _ = alone
 
-  pub frame-at-unique : (k : ℕ) (r q : Marked) → r ≡ frameAt s k → q ≡ frameAt s k → r ≡ q
-  frame-at-unique k r q = one-result
+pub frame-at-unique : Fixes frame-at.ended frame-at.Reads.Post
+frame-at-unique _ _ _ _ _ _ = alone
 
-  module _ (p : List ℕ) where
-    pub check-unique : (t : ℕ) (r q : Seen) → r ≡ walk p t (frames s) → q ≡ walk p t (frames s) → r ≡ q
-    check-unique t r q = one-result
+pub check-unique : Fixes check.ended check.Reads.Post
+check-unique _ _ _ _ _ _ = alone
 
-    pub serve-unique : (op : Operation) (r q : Answer) (left other : List ℕ)
-        → Serve (Pictures p) true 190 p s op r left (stepIn p s op) → Serve (Pictures p) true 190 p s op q other (stepIn p s op) → (r ≡ q) × (left ≡ other)
-    serve-unique op r q left other h k = gives-unique (stepIn p s op) r q left other (h .gives) (k .gives)
+pub serve-unique : Fixes serve.ended serve.Reads.Post
+serve-unique _ _ _ _ _ _ h k = gives-unique (λ w. (tt, (w, (tt, tt)))) (h .gives) (k .gives)
 
-    pub valid-unique : (r q : Bool) → r ≡ fits p s → q ≡ fits p s → r ≡ q
-    valid-unique r q = one-result
+pub valid-unique : Fixes valid.ended valid.Reads.Post
+valid-unique _ _ _ _ _ _ = alone
 
-    pub operate-unique : (w lent r q byte byte′ : ℕ) (left other : List ℕ)
-        → Operate (Pictures p) true (fits p s) (stepIn p s) p s w r lent byte left → Operate (Pictures p) true (fits p s) (stepIn p s) p s w q lent byte′ other
-        → (r ≡ q) × (byte ≡ byte′) × (left ≡ other)
-    operate-unique w lent r q byte byte′ left other h k = operated-unique (guarded (fits p s) (stepIn p s) p w s) lent r q byte byte′ left other (h .exact) (k .exact)
+pub operate-unique : Fixes operate.ended operate.Reads.Post
+operate-unique _ _ _ _ _ _ h k = operated-unique (λ w b. (tt, (w, (tt, (b, tt))))) (h .exact) (k .exact)
