@@ -10,7 +10,7 @@ use lib.Dec.{eqb}
 use borrow.Author.Tests.{eqb-true, eqb-false}
 use native.Mathlib.Nat.{add-zero, add-suc}
 use lib.ListN.{length, getD, set, take, drop, replicate, length-drop, drop-of-length-le}
-use lib.Seq.{sets, drop-cons, getD-take, getD-drop, length-take-le}
+use lib.Seq.{sets, sets-eq, drop-cons, take-at, getD-take, getD-drop, length-take-le}
 use Rattle.bits.specs.Bit.{below, allBelow}
 use Rattle.beliefs.specs.Lists.{any, all, keep, each}
 
@@ -143,3 +143,7 @@ put-end l text at i h = rw (drop-of-length-le text {i = i} h)
 pub sets-more : (l : List ℕ) (i : ℕ) (vs ws : List ℕ) → sets (sets l i vs) (i + length vs) ws ≡ sets l i (vs ++ ws)
 sets-more l i [] ws = rw (add-zero i)
 sets-more l i (v ∷ vs) ws = let e : i + suc (length vs) ≡ suc i + length vs = omega arith in rw e (sets-more (set l i v) (suc i) vs ws)
+
+-- what is stored at the front of a buffer is found there
+pub front : (lent bs : List ℕ) → length bs ≤ length lent → take (length bs) (sets lent 0 bs) ≡ bs
+front lent bs h = ap (take (length bs)) (sets-eq bs lent 0 (omega arith)) ∙ take-at bs (drop (0 + length bs) lent) (length bs) refl

@@ -11,8 +11,12 @@ use Rattle.bits.proofs.fits as fits
 use Rattle.bits.proofs.all_fit as all-fit
 use Rattle.bits.proofs.ones as ones
 
+-- what the kit makes of a clause: a relation of arguments, result and what the arguments are at exit
+abbrev pub Clause : Ended → Type 1
+Clause T = (κs : Lfts (T .signature .lifetimes)) → Args (T .signature) κs → Res (T .signature) κs → AtExit T κs → Type 0
+
 -- a promise fixes the result, and what is left in everything that was lent to be changed
-abbrev pub Fixes : (T : Ended) → ((κs : Lfts (T .signature .lifetimes)) → Args (T .signature) κs → Res (T .signature) κs → AtExit T κs → Type 0) → Type 0
+abbrev pub Fixes : (T : Ended) → Clause T → Type 0
 Fixes T Promise = (κs : Lfts (T .signature .lifetimes)) (a : Args (T .signature) κs) (r s : Res (T .signature) κs) (ws vs : Lasts T κs a)
     → Promise κs a r (atExit T κs a ws) → Promise κs a s (atExit T κs a vs) → (r ≡ s) × (ws ≡ vs)
 

@@ -1,1 +1,189 @@
--- A placeholder while the page is written.
+-- The three demands. Each theorem stands under the mission's sentence that it answers, and ends at a function of the C boundary: it speaks of document 01's definitions and of what that
+-- function promises alone (specs/Exported.antt). Assumes nothing.
+use mathlib.Core.Path.{_≡_, refl, sym, _∙_}
+use mathlib.Core.Logic.{_≢_}
+use mathlib.Core.Bool.{Bool, true, false}
+use mathlib.Core.List.{List, _∷_, map}
+use Prim.Native.Nat.{ℕ, suc, _+_, _*_, _/_, _%_, _≤_, _<_}
+use native.Mathlib.Omega.{arith}
+use lib.ListN.{length, length-map, getD, take}
+use lib.Seq.{sets}
+use borrow.Author.Tests.{ne-eqb, lt-ltb}
+use Rattle.beliefs.specs.declared.Operation.{Operation}
+use Rattle.beliefs.specs.declared.Operation.the-variants.{Check}
+use Rattle.beliefs.specs.Policy.{targets, valid, readNumber}
+use Rattle.beliefs.specs.Stack.{Frame, marked, granted, walk}
+use Rattle.beliefs.specs.Trace.{kindOf, step}
+use Rattle.beliefs.specs.Derivation.{judged}
+use Rattle.beliefs.specs.Engine.{inside, verdictByte}
+use Rattle.beliefs.proofs.Counts.{looked-le}
+use Rattle.beliefs.proofs.Policy.{ranges}
+use Rattle.policy.specs.Read.{PolicyRead, Bytes}
+use Rattle.policy.proofs.RoundTrip as round
+use Rattle.walk.specs.State as walks
+use Rattle.walk.specs.Coherent as stacks
+use Rattle.walk.proofs.Kept as walked
+use Rattle.walk.proofs.Agree.{agree}
+use Rattle.record.specs.Record as records
+use Rattle.record.specs.Pictures as chains
+use Rattle.record.proofs.Served as recorded
+use Rattle.record.proofs.Stays as recorded′
+use Rattle.passed.specs.State.{passedFits}
+use Rattle.passed.specs.Picture.{PassedOf}
+use Rattle.runner.proofs.Equal.{OneVerdict, three-runs}
+use Rattle.derivation.specs.Promise.{checking}
+use Rattle.derivation.proofs.Demand.{unbarred}
+use Rattle.galmuvesh.specs.Boundary.{report, passedIn, Moves, Says, Asks}
+use Rattle.demands.specs.Exported.{PolicyWrote, WalkRan, RecordRan, PassedRan, WalkOperated, RecordOperated, DerivationWrote, DerivationChecked}
+use Rattle.demands.specs.Live.{WalkLived, RecordLived, PassedLived, Live, Answered, checkWord}
+use Rattle.demands.specs.Shown.{Settled}
+use Rattle.demands.proofs.Refused.{walk-leaves, record-leaves, word-leaves, run-bytes, nothing-written, policy-silent, derivation-silent}
+use Rattle.demands.proofs.Live as live
+use Rattle.demands.proofs.Nested as nested
+use Rattle.demands.proofs.Shown as showing
+
+-- 1. "Every policy, trace, state and derivation, damaged or invented, gets an answer, and every run ends."
+-- Each function of the C boundary is total: its promise has no premise, and the check proves that it returns. What it answers is a definition's value at those
+-- very arguments: `readNumber`, `writing`, `run`, `guarded`, `refusalOf`, `checking`, `writing` of a derivation.
+
+-- "A refused operation changes no state": neither a word of it nor the answer byte, whichever number refuses it.
+pub walk-refused : (p s : List ℕ) (w lent n byte : ℕ) (left : List ℕ) → WalkOperated p s w lent n byte left → n ≢ 0 → (left ≡ s) × (byte ≡ lent)
+walk-refused p s w lent n byte left h nz = word-leaves s (walks.fits p s) (walks.stepIn p s) (walk-leaves s p) p w n lent byte left (h .exact) nz
+
+pub record-refused : (p s : List ℕ) (w lent n byte : ℕ) (left : List ℕ) → RecordOperated p s w lent n byte left → n ≢ 0 → (left ≡ s) × (byte ≡ lent)
+record-refused p s w lent n byte left h nz = word-leaves s (records.recordFits p s) (records.stepIn p s) (record-leaves s p) p w n lent byte left (h .exact) nz
+
+pub passed-refused : (p s : List ℕ) (op : Operation) (n : ℕ) (left : List ℕ) → Moves p s op n left → n ≢ 0 → left ≡ s
+passed-refused p s op n left h nz = h .state ∙ rw (ne-eqb _ 0 (λ e. nz (h .number ∙ e)))
+
+pub passed-unanswered : (p s : List ℕ) (t n lent byte : ℕ) → Asks p s t n lent byte → n ≢ 0 → byte ≡ lent
+passed-unanswered p s t n lent byte h nz = h .answer ∙ rw (ne-eqb _ 0 (λ e. nz (h .number ∙ e)))
+
+-- A refused reading leaves the value as it was lent.
+pub read-refused : (bytes lent : List ℕ) (n : ℕ) (left : List ℕ) → PolicyRead bytes lent n left → n ≢ 0 → left ≡ lent
+read-refused bytes lent n left h nz = h .value ∙ rw (ne-eqb (readNumber bytes) 0 (λ e. nz (h .number ∙ e)))
+
+-- "Document 01 says which bytes of a lent buffer are written, and no others are": a run writes as many answers as its figure says, at the front.
+pub walk-run-writes : (p trace lent : List ℕ) (n figure : ℕ) (left : List ℕ) → WalkRan p trace lent n figure left → (written : List ℕ) × (left ≡ sets lent 0 written) × (figure ≡ length written)
+walk-run-writes p trace lent n figure left h = run-bytes true p trace lent left (report n figure) h
+
+pub record-run-writes : (p trace lent : List ℕ) (n figure : ℕ) (left : List ℕ) → RecordRan p trace lent n figure left → (written : List ℕ) × (left ≡ sets lent 0 written) × (figure ≡ length written)
+record-run-writes p trace lent n figure left h = run-bytes false p trace lent left (report n figure) h
+
+pub passed-run-writes : (p trace lent : List ℕ) (n figure : ℕ) (left : List ℕ) → PassedRan p trace lent n figure left → (written : List ℕ) × (left ≡ sets lent 0 written) × (figure ≡ length written)
+passed-run-writes = record-run-writes
+
+-- A writer, of a policy or of a derivation, that refuses writes nothing.
+pub policy-write-refused : (p lent : List ℕ) (n figure : ℕ) (left : List ℕ) → PolicyWrote p lent n figure left → n ≢ 0 → left ≡ lent
+policy-write-refused p lent n figure left h nz = nothing-written lent left (report n figure) _ h (policy-silent p (length lent)) nz
+
+pub derivation-write-refused : (p s : List ℕ) (t : ℕ) (lent : List ℕ) (n figure : ℕ) (left : List ℕ) → DerivationWrote p s t lent n figure left → n ≢ 0 → left ≡ lent
+derivation-write-refused p s t lent n figure left h nz = nothing-written lent left (report n figure) _ h (derivation-silent p s t (length lent)) nz
+
+-- 2. "In every trace each check's verdict is the one that the belief sets of Wallach and Felten give, as document 01 condenses them. Stack walk, belief record and
+-- passed state all give it, and the walk's number of frames looked at is the definition's."
+-- In a run: `run` answers each check by `granted`, the belief sets, and by the walk's count; the three report one such account.
+pub one-verdict : (p trace lent : List ℕ) (n m k figure figure′ figure″ : ℕ) (by-walk by-record by-passed : List ℕ)
+    → WalkRan p trace lent n figure by-walk → RecordRan p trace lent m figure′ by-record → PassedRan p trace lent k figure″ by-passed
+    → OneVerdict p trace lent (report n figure) (report m figure′) (report k figure″) by-walk by-record by-passed
+one-verdict p trace lent n m k figure figure′ figure″ by-walk by-record by-passed =
+    three-runs p trace lent (report n figure) (report m figure′) (report k figure″) by-walk by-record by-passed
+
+-- Live, under one valid policy: a state that lives from zeros by accepted operations is let through by number 14 and pictures the definition's stack, which is reached; so no operation is then
+-- refused by 13 or 14, and every answer is the definition's.
+module _ (p : List ℕ) (v : valid p ≡ true) where
+  pub walk-live : (s : List ℕ) (st : List Frame) → WalkLived p s st → Live (stacks.Pictures p) (walks.fits p) p s st
+  walk-live = live.live p v (stacks.Pictures p) true (walks.fits p) (walks.stepIn p) 190 (walked.fresh p) (λ s st h. h .fits)
+
+  pub walk-answers : (s : List ℕ) (st : List Frame) → WalkLived p s st → (w lent n byte : ℕ) (left : List ℕ) → WalkOperated p s w lent n byte left → Answered true p st w lent n byte
+  walk-answers = live.answered p v (stacks.Pictures p) true (walks.fits p) (walks.stepIn p) 190 (walked.fresh p) (λ s st h. h .fits)
+
+  pub record-live : (s : List ℕ) (st : List Frame) → RecordLived p s st → Live (chains.Pictures p) (records.recordFits p) p s st
+  record-live = live.live p v (chains.Pictures p) false (records.recordFits p) (records.stepIn p) 4096 (recorded.fresh p) (recorded′.fits p)
+
+  pub record-answers : (s : List ℕ) (st : List Frame) → RecordLived p s st → (w lent n byte : ℕ) (left : List ℕ) → RecordOperated p s w lent n byte left → Answered false p st w lent n byte
+  record-answers = live.answered p v (chains.Pictures p) false (records.recordFits p) (records.stepIn p) 4096 (recorded.fresh p) (recorded′.fits p)
+
+  -- The passed state, over a host's own nesting.
+  module _ (s : List ℕ) (kept : List (List ℕ)) (st : List Frame) (l : PassedLived p (s ∷ kept) st) where
+    pub passed-live : Live (λ words. PassedOf p (passedIn words)) (λ words. passedFits p (passedIn words)) p s st
+    passed-live = let n = nested.nested p v (s ∷ kept) st l in record { let-through = n .known .0 .let-through; pictures = n .known .0 .pictures; reached = n .reached }
+
+    pub passed-moves : (op : Operation) (n : ℕ) (left : List ℕ) → Moves p s op n left → ((inside p op ≡ true → n ≡ step p op st .number) × (n ≢ 13) × (n ≢ 14))
+    passed-moves op n left h =
+        let few : n ≤ 8 = rw (h .number) (nested.refusal-number p (passedIn s) op v (passed-live .let-through)) in
+        (λ i. h .serves v (passed-live .let-through) i st (passed-live .pictures) .number, omega arith, omega arith)
+
+    pub passed-answers : (t n lent byte : ℕ) → Asks p s t n lent byte → ((t < targets p → Says n lent byte (step p (Check t) st)) × (n ≢ 13) × (n ≢ 14))
+    passed-answers t n lent byte h =
+        let few : n ≤ 8 = rw (h .number) (nested.refusal-number p (passedIn s) (Check t) v (passed-live .let-through)) in
+        (λ i. h .serves v (passed-live .let-through) (lt-ltb t (targets p) i) st (passed-live .pictures), omega arith, omega arith)
+
+  -- So the three give one verdict live, the belief sets', and the walk the definition's count with it.
+  module _ (f : Frame) (r : List Frame) (t : ℕ) (l : t < targets p) where
+    abbrev verdict : Bool
+    verdict = granted p t (f ∷ r)
+
+    abbrev count : ℕ
+    count = walk p t (map marked (f ∷ r)) .looked
+
+    pub walk-verdict : (s : List ℕ) → WalkLived p s (f ∷ r) → (lent n byte : ℕ) (left : List ℕ) → WalkOperated p s (checkWord t) lent n byte left → (n ≡ 0) × (byte ≡ verdictByte verdict count)
+    walk-verdict s h lent n byte left o = live.check-answered true p f r t l (ranges p v .targets-most) lent n byte (walk-answers s (f ∷ r) h (checkWord t) lent n byte left o)
+
+    pub record-verdict : (s : List ℕ) → RecordLived p s (f ∷ r) → (lent n byte : ℕ) (left : List ℕ) → RecordOperated p s (checkWord t) lent n byte left → (n ≡ 0) × (byte ≡ verdictByte verdict 0)
+    record-verdict s h lent n byte left o = live.check-answered false p f r t l (ranges p v .targets-most) lent n byte (record-answers s (f ∷ r) h (checkWord t) lent n byte left o)
+
+    pub passed-verdict : (s : List ℕ) (kept : List (List ℕ)) → PassedLived p (s ∷ kept) (f ∷ r) → (lent n byte : ℕ) → Asks p s t n lent byte → (n ≡ 0) × (byte ≡ verdictByte verdict 0)
+    unfolding step
+    passed-verdict s kept h lent n byte o = let a = passed-answers s kept (f ∷ r) h t n lent byte o .0 l in (a .number, a .answer)
+
+-- "A policy has exactly one byte form, and comes back the same when written and read": bytes that are read as one value are the same bytes; what is written for a value is read as that
+-- value, and bytes that are read are written again for the value that they gave.
+pub one-form : (a b lent lent′ value : List ℕ) → Bytes a → Bytes b → PolicyRead a lent 0 value → PolicyRead b lent′ 0 value → a ≡ b
+one-form a b lent lent′ value h k x y =
+    round.one-form a b h k (sym (x .number)) (sym (y .number)) (sym (round.value-of a lent value x) ∙ round.value-of b lent′ value y)
+
+pub comes-back : (p lent left : List ℕ) (figure : ℕ) → length p ≡ 35 → PolicyWrote p lent 0 figure left → (other value : List ℕ) (n : ℕ) → PolicyRead (take figure left) other n value → (n ≡ 0) × (value ≡ p)
+comes-back p lent left figure long h other value n r = round.read-after-write p lent left (report 0 figure) long h refl other value n r
+
+pub written-again : (bytes other value : List ℕ) → Bytes bytes → PolicyRead bytes other 0 value
+    → (lent left : List ℕ) (n figure : ℕ) → length bytes ≤ length lent → PolicyWrote value lent n figure left → (n ≡ 0) × (take figure left ≡ bytes)
+written-again bytes other value b r lent left n figure room h = round.write-after-read bytes other value 0 b r refl lent left (report n figure) room h
+
+-- 3. "A verdict can be shown to a stranger. Our checker accepts just what document 01's rules allow."
+-- On a valid policy, a state that number 14 lets through and then its frames, the checker answers as `judged` does: rule by rule, step by step.
+pub checker-judges : (p s : List ℕ) (t : ℕ) (steps : List ℕ) (n figure : ℕ) → valid p ≡ true → walks.fits p s ≡ true → DerivationChecked p s t steps n figure
+    → (n ≡ judged p (walks.frames s) t steps .number) × (figure ≡ judged p (walks.frames s) t steps .figure)
+unfolding checking
+checker-judges p s t steps n figure v f h = let a = rw (v, f) at h in (a .number, a .figure)
+
+-- "Some derivation is accepted exactly when the check is granted, whoever wrote it. For each granted check we write one, of 3n + 1 steps when n frames were looked at; it is accepted, and no
+-- shorter one is." In the state's own terms, of any state that number 14 lets through, with a frame and a target of the policy: with the walk's verdict and count.
+module _ (p s : List ℕ) (t : ℕ) (v : valid p ≡ true) (f : walks.fits p s ≡ true) (framed : getD s 0 0 ≢ 0) (l : t < targets p) where
+  pub shown-on-state : Settled p s t (walk p t (walks.frames s) .looked) (walk p t (walks.frames s) .granted)
+  shown-on-state = showing.settled p s t (unbarred p s t v f framed l)
+
+  pub written-down : walk p t (walks.frames s) .granted ≡ true → (lent : List ℕ) → 3 * walk p t (walks.frames s) .looked + 1 ≤ length lent
+      → (n figure : ℕ) (left : List ℕ) → DerivationWrote p s t lent n figure left → (n ≡ 0) × (figure ≡ 3 * walk p t (walks.frames s) .looked + 1)
+  written-down = showing.writes p s t (unbarred p s t v f framed l)
+
+-- What the writer leaves where it returns 0, on any arguments, is accepted, and the checker's figure is the writer's: 3n + 1.
+pub written-accepted : (p s : List ℕ) (t : ℕ) (lent : List ℕ) (figure : ℕ) (left : List ℕ) → DerivationWrote p s t lent 0 figure left
+    → (n f : ℕ) → DerivationChecked p s t (take figure left) n f → (n ≡ 0) × (f ≡ figure) × (figure ≡ 3 * walk p t (walks.frames s) .looked + 1)
+written-accepted p s t lent figure left h n f c = let a = showing.left-accepted p s t lent figure left h n f c in (a .0, a .1, showing.left-figure p s t lent figure left h)
+
+-- "In any state reached from a fresh start under one policy, with a frame present and a target of that policy": the verdict is then the belief sets', and the answer byte of the walk's check has
+-- both, the verdict in its kind and n in its count.
+pub shown : (p : List ℕ) → valid p ≡ true → (s : List ℕ) (f : Frame) (r : List Frame) → WalkLived p s (f ∷ r) → (t : ℕ) → t < targets p
+    → (lent m byte : ℕ) (left : List ℕ) → WalkOperated p s (checkWord t) lent m byte left
+    → (m ≡ 0) × (byte / 64 ≡ kindOf (granted p t (f ∷ r))) × Settled p s t (byte % 64) (granted p t (f ∷ r))
+shown p v s f r h t l lent m byte left o =
+    let is = walk-live p v s (f ∷ r) h in
+    let deep : getD s 0 0 ≡ suc (length r) = is .pictures .deep in
+    let answer = walk-verdict p v f r t l s h lent m byte left o in
+    let few : walk p t (map marked (f ∷ r)) .looked ≤ 63 = omega (arith, looked-le p t (map marked (f ∷ r)), length-map (f ∷ r) marked, is .pictures .room) in
+    let whole : byte ≡ kindOf (granted p t (f ∷ r)) * 64 + walk p t (map marked (f ∷ r)) .looked = answer .1 in
+    let count : byte % 64 ≡ walk p t (map marked (f ∷ r)) .looked = omega arith in
+    let kind : byte / 64 ≡ kindOf (granted p t (f ∷ r)) = omega arith in
+    let walked-here : Settled p s t (walk p t (map marked (f ∷ r)) .looked) (walk p t (map marked (f ∷ r)) .granted) = rw (is .pictures .same) at (shown-on-state p s t v (is .let-through) (omega arith) l) in
+    (answer .0, kind, rw (count, agree p t (f ∷ r) (is .pictures .coherent)) walked-here)

@@ -1,9 +1,9 @@
 -- The promises of the C boundary are its functions' own clauses: each follows from what the kit makes of the clause, as it stands. Assumes nothing.
 use mathlib.Core.Path.{_≡_}
-use mathlib.Core.List.{List}
 use contract.Lifetimes.{Lfts}
-use denote.Triple.Clauses.{Ended, Lasts, AtExit, atExit}
+use denote.Triple.Clauses.{Ended, Lasts, atExit}
 use denote.Triple.Entry.{Args, Res}
+use Rattle.bits.proofs.Unique.{Clause}
 use Rattle.beliefs.specs.declared.Operation.the-variants.{Call, Enable, Disable, Revert}
 use Rattle.policy.specs.Read.{PolicyRead, cutAt}
 use Rattle.galmuvesh.specs.Boundary.{Moves, Asks}
@@ -24,13 +24,10 @@ use Rattle.galmuvesh.proofs.galmuvesh_derivation_write as derivation-write
 use Rattle.galmuvesh.proofs.galmuvesh_derivation_check as derivation-check
 use Rattle.demands.specs.Exported.{PolicyWrote, WalkRan, RecordRan, PassedRan, WalkOperated, RecordOperated, DerivationWrote, DerivationChecked}
 
--- of every call, with any arguments: what its clause says of its result, and of what it leaves where it may write
-module _ (T : Ended) where
-  abbrev Of : Type 1
-  Of = (κs : Lfts (T .signature .lifetimes)) (a : Args (T .signature) κs) → Res (T .signature) κs → Lasts T κs a → Type 0
-
-  abbrev Promises : ((κs : Lfts (T .signature .lifetimes)) → Args (T .signature) κs → Res (T .signature) κs → AtExit T κs → Type 0) → Of → Type 0
-  Promises Clause Says = (κs : Lfts (T .signature .lifetimes)) (a : Args (T .signature) κs) (r : Res (T .signature) κs) (left : Lasts T κs a) → Clause κs a r (atExit T κs a left) → Says κs a r left
+-- of every call, with any arguments: what its clause says of its result, and of what it leaves in everything that was lent to be changed
+abbrev Promises : (T : Ended) → Clause T → ((κs : Lfts (T .signature .lifetimes)) (a : Args (T .signature) κs) → Res (T .signature) κs → Lasts T κs a → Type 0) → Type 0
+Promises T Promise Says = (κs : Lfts (T .signature .lifetimes)) (a : Args (T .signature) κs) (r : Res (T .signature) κs) (left : Lasts T κs a)
+    → Promise κs a r (atExit T κs a left) → Says κs a r left
 
 pub policy-reads : Promises policy-read.ended policy-read.Reads.Post (λ κs a r left. PolicyRead (a .0 .now) (a .1 .0 .now) r (left .1 .0))
 policy-reads κs a r left h = h

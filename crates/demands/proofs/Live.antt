@@ -1,22 +1,21 @@
 -- A lent state that lives from zeros by accepted words pictures the definition's stack, which is reached; so number 13 and 14 never come, and each answer is the definition's. Assumes nothing.
-use mathlib.Core.Path.{_≡_, refl, sym, ap, _∙_}
-use mathlib.Core.Logic.{_≢_}
+use mathlib.Core.Path.{_≡_, sym, ap, _∙_}
 use mathlib.Core.Bool.{Bool, true, false, cond}
-use mathlib.Core.List.{List, [], _∷_}
-use Prim.Native.Nat.{ℕ, suc, _+_, _*_, _≤_, _<_}
+use mathlib.Core.List.{List, [], _∷_, map}
+use Prim.Native.Nat.{ℕ, _≤_, _<_}
 use native.Mathlib.Omega.{arith}
 use lib.Dec.{eqb, ltb}
 use lib.ListN.{length, replicate}
-use borrow.Author.Tests.{eq-eqb, ne-eqb, lt-ltb, le-ltb}
+use borrow.Author.Tests.{lt-ltb}
 use Rattle.beliefs.specs.declared.Operation.{Operation}
 use Rattle.beliefs.specs.declared.Operation.the-variants.{Call, Return, Enable, Disable, Revert, Check}
 use Rattle.beliefs.specs.declared.Decoded.{Decoded}
 use Rattle.beliefs.specs.declared.Decoded.the-variants.{Word, Refused}
 use Rattle.beliefs.specs.Policy.{signers, targets, valid}
-use Rattle.beliefs.specs.Stack.{Frame, called}
+use Rattle.beliefs.specs.Stack.{Frame, called, granted, marked, walk}
 use Rattle.beliefs.specs.Words.{wordOperation, wordSigner, wordTarget, wordSpare, operationOf, strayIn, outsideOf, decoded}
-use Rattle.beliefs.specs.Trace.{Outcome, refuse, done, step, served, answerByte}
-use Rattle.beliefs.specs.Engine.{inside, Moved, Answers, Operate}
+use Rattle.beliefs.specs.Trace.{Outcome, refuse, done, step, served}
+use Rattle.beliefs.specs.Engine.{Moved, verdictByte, Answers, Operate}
 use Rattle.beliefs.proofs.Refusals.{at-most}
 use Rattle.beliefs.proofs.Words.{Fair, decoded-fair}
 use Rattle.demands.specs.Live.{Reached, fresh, moved, outcome, Lived, zeros, word, Live, Answered, checkWord}
@@ -66,6 +65,15 @@ check-decoded p t l few =
     let spare : wordSpare (checkWord t) ≡ 0 = omega arith in
     rw (operation, signer, target, spare, lt-ltb t (targets p) l)
 
+-- and answered with the verdict of the belief sets
+pub check-answered : (counts : Bool) (p : List ℕ) (f : Frame) (r : List Frame) (t : ℕ) → t < targets p → targets p ≤ 64 → (lent n byte : ℕ) → Answered counts p (f ∷ r) (checkWord t) lent n byte
+    → (n ≡ 0) × (byte ≡ verdictByte (granted p t (f ∷ r)) (cond counts (walk p t (map marked (f ∷ r)) .looked) 0))
+unfolding step
+check-answered counts p f r t l few lent n byte a =
+    let same : outcome p (checkWord t) (f ∷ r) ≡ step p (Check t) (f ∷ r) = ap (λ (d : Decoded). served p d (f ∷ r)) (check-decoded p t l few) in
+    let accepted : n ≡ 0 = a .number ∙ ap (λ (o : Outcome). o .number) same in
+    (accepted, a .answer ∙ rw (accepted, same))
+
 module _ (p : List ℕ) (v : valid p ≡ true) where
   -- an accepted word leads from a stack that is reached to another
   reaches : (st : List Frame) (d : Decoded) → Fair p d → served p d st .number ≡ 0 → Reached p st → Reached p (served p d st .stack)
@@ -79,14 +87,14 @@ module _ (p : List ℕ) (v : valid p ≡ true) where
     Operated s w lent n byte left = Operate Pictures counts (fits s) (act s) p s w n lent byte left
 
     pub live : (s : List ℕ) (st : List Frame) → Lived p size Operated s st → Live Pictures fits p s st
-    live s st zeros = record { let-through = fitting (replicate size 0) [] begins; pictures = begins; reached = fresh }
-    live s st (word {s₀} {st₀} w lent byte left l h) =
-        let was : Live Pictures fits p s₀ st₀ = live s₀ st₀ l in
-        let now : Answers Pictures counts 0 lent byte left (outcome p w st₀) = h .answers v (was .let-through) st₀ (was .pictures) in
+    live _ _ zeros = record { let-through = fitting (replicate size 0) [] begins; pictures = begins; reached = fresh }
+    live _ _ (word {s} {st} w lent byte left l h) =
+        let was : Live Pictures fits p s st = live s st l in
+        let now : Answers Pictures counts 0 lent byte left (outcome p w st) = h .answers v (was .let-through) st (was .pictures) in
         record {
-          let-through = fitting left (outcome p w st₀ .stack) (now .pictures);
+          let-through = fitting left (outcome p w st .stack) (now .pictures);
           pictures = now .pictures;
-          reached = reaches st₀ (decoded (signers p) (targets p) w 0) (decoded-fair p w 0) (sym (now .number)) (was .reached);
+          reached = reaches st (decoded (signers p) (targets p) w 0) (decoded-fair p w 0) (sym (now .number)) (was .reached);
         }
 
     pub answered : (s : List ℕ) (st : List Frame) → Lived p size Operated s st → (w lent n byte : ℕ) (left : List ℕ) → Operated s w lent n byte left → Answered counts p st w lent n byte

@@ -1,7 +1,6 @@
 -- Passed states that a host nests picture the definition's stack, the newest frame's words all of it and each caller's the frames from that caller down: so number 13 and 14 never come, and
 -- each answer is the definition's. Assumes nothing.
 use mathlib.Core.Path.{_≡_, refl, sym, ap, _∙_}
-use mathlib.Core.Logic.{_≢_}
 use mathlib.Core.Bool.{Bool, true, false, cond}
 use mathlib.Core.List.{List, [], _∷_}
 use Prim.Native.Nat.{ℕ, suc, _≤_}
@@ -21,7 +20,7 @@ use Rattle.passed.specs.State.{passedFits, outsideOf, barredOf, refusalOf}
 use Rattle.passed.specs.Picture.{PassedOf, below}
 use Rattle.passed.proofs.Kept.{fresh-fits, through, not-outside}
 use Rattle.passed.proofs.Serves.{fresh-pictures}
-use Rattle.galmuvesh.specs.Boundary.{passedIn, Follows, Moves, Says, Asks}
+use Rattle.galmuvesh.specs.Boundary.{passedIn, Follows, Moves}
 use Rattle.galmuvesh.proofs.Passing.{returns, moved-fits}
 use Rattle.demands.specs.Live.{Reached, fresh, moved, PassedLived, zeros, call, enable, disable, revert, back}
 
@@ -108,19 +107,19 @@ module _ (p : List ℕ) (v : valid p ≡ true) where
   returned s caller kept (f ∷ r) n = record { count = omega (arith, n .count); known = n .known .1; reached = moved Return (n .reached) refl refl }
 
   pub nested : (states : List (List ℕ)) (st : List Frame) → PassedLived p states st → Nest p states st
-  nested states st zeros = record { count = refl; known = (record { let-through = fresh-fits p; pictures = fresh-pictures p }, tt); reached = fresh }
-  nested states st (call {s} {kept} {st₀} g left l h) =
-      let n : Nest p (s ∷ kept) st₀ = nested (s ∷ kept) st₀ l in
-      let over : step p (Call g) st₀ .stack ≡ called p g st₀ ∷ st₀ = call-over p g st₀ (sym (follows s st₀ (n .known .0) (Call g) refl left h .number)) in
+  nested _ _ zeros = record { count = refl; known = (record { let-through = fresh-fits p; pictures = fresh-pictures p }, tt); reached = fresh }
+  nested _ _ (call {s} {kept} {st} g left l h) =
+      let n : Nest p (s ∷ kept) st = nested (s ∷ kept) st l in
+      let over : step p (Call g) st .stack ≡ called p g st ∷ st = call-over p g st (sym (follows s st (n .known .0) (Call g) refl left h .number)) in
       record {
         count = rw over (ap suc (n .count));
-        known = (now-known s st₀ (n .known .0) (Call g) refl left h, rw over (n .known));
-        reached = now-reached s st₀ (n .known .0) (Call g) refl left h (n .reached);
+        known = (now-known s st (n .known .0) (Call g) refl left h, rw over (n .known));
+        reached = now-reached s st (n .known .0) (Call g) refl left h (n .reached);
       }
-  nested states st (enable {s} {kept} {st₀} t left l h) = marked s kept st₀ (nested (s ∷ kept) st₀ l) (Enable t) refl left h
-  nested states st (disable {s} {kept} {st₀} t left l h) = marked s kept st₀ (nested (s ∷ kept) st₀ l) (Disable t) refl left h
-  nested states st (revert {s} {kept} {st₀} t left l h) = marked s kept st₀ (nested (s ∷ kept) st₀ l) (Revert t) refl left h
-  nested states st (back {s} {caller} {kept} {st₀} l) = returned s caller kept st₀ (nested (s ∷ caller ∷ kept) st₀ l)
+  nested _ _ (enable {s} {kept} {st} t left l h) = marked s kept st (nested (s ∷ kept) st l) (Enable t) refl left h
+  nested _ _ (disable {s} {kept} {st} t left l h) = marked s kept st (nested (s ∷ kept) st l) (Disable t) refl left h
+  nested _ _ (revert {s} {kept} {st} t left l h) = marked s kept st (nested (s ∷ kept) st l) (Revert t) refl left h
+  nested _ _ (back {s} {caller} {kept} {st} l) = returned s caller kept st (nested (s ∷ caller ∷ kept) st l)
 
 -- an operation on such words is refused by 8 at most
 outside-number : (p : List ℕ) (op : Operation) → outsideOf p op ≤ 8

@@ -4,18 +4,24 @@ use mathlib.Core.Logic.{_≢_}
 use mathlib.Core.Bool.{Bool, true, false, cond}
 use mathlib.Core.List.{List, []}
 use Prim.Native.Nat.{ℕ, _+_, _*_}
+use native.Mathlib.Omega.{arith}
 use lib.Dec.{eqb, ltb}
+use lib.ListN.{length}
+use lib.Seq.{sets}
 use borrow.Author.Tests.{ne-eqb}
 use Rattle.beliefs.specs.declared.Operation.{Operation}
 use Rattle.beliefs.specs.declared.Operation.the-variants.{Call, Return, Enable, Disable, Revert, Check}
 use Rattle.beliefs.specs.declared.Decoded.{Decoded}
 use Rattle.beliefs.specs.declared.Decoded.the-variants.{Word, Refused}
-use Rattle.beliefs.specs.Account.{Account, told}
+use Rattle.beliefs.specs.declared.Report.{Report}
+use Rattle.beliefs.specs.Account.{Account, told, Reports}
 use Rattle.beliefs.specs.Lists.{empty}
 use Rattle.beliefs.specs.Policy.{signers, targets, size, valid, writing}
 use Rattle.beliefs.specs.Stack.{walk as walked}
 use Rattle.beliefs.specs.Derivation.{derived}
 use Rattle.beliefs.specs.Words.{decoded}
+use Rattle.beliefs.specs.Trace.{run}
+use Rattle.beliefs.proofs.Counts.{run-answered}
 use Rattle.beliefs.specs.Numbers.{noFrame, tooDeep}
 use Rattle.beliefs.specs.Engine.{Moved, refuseIn, doneIn, framedIn, deeperIn, decodedIn, guarded, Operated}
 use Rattle.walk.specs.State as walk
@@ -105,3 +111,12 @@ derivation-silent p s t room =
     (told-silent 6 0))
     (told-silent 14 0))
     (told-silent 13 0)
+
+-- a writer that refuses leaves the buffer as it was lent
+pub nothing-written : (lent left : List ℕ) (r : Report) (a : Account) → Reports r lent left a → Silent a → r .number ≢ 0 → left ≡ lent
+nothing-written lent left r a h s nz = h .buffer ∙ rw (s .quiet (λ e. nz (h .number ∙ e)))
+
+-- a run writes as many answers as its figure says, at the front
+pub run-bytes : (counts : Bool) (p trace lent left : List ℕ) (r : Report) → Reports r lent left (run counts p trace (length lent))
+    → (written : List ℕ) × (left ≡ sets lent 0 written) × (r .figure ≡ length written)
+run-bytes counts p trace lent left r h = (run counts p trace (length lent) .written, h .buffer, omega (arith, h .figure, run-answered counts p trace (length lent) .figure))

@@ -7,7 +7,7 @@ use mathlib.Core.List.{List, [], _∷_}
 use Prim.Native.Nat.{ℕ}
 use lib.Dec.{eqb, ltb}
 use lib.ListN.{length}
-use borrow.Author.Tests.{eqb-true, ne-eqb}
+use borrow.Author.Tests.{eqb-true}
 use Rattle.bits.proofs.Laws.{never}
 use Rattle.beliefs.specs.declared.Operation.{Operation}
 use Rattle.beliefs.specs.declared.Operation.the-variants.{Call, Return, Enable, Disable, Revert, Check}
@@ -113,10 +113,3 @@ unfolding operateOf
 moved-fits p s op r left h =
     let none : refusalOf p (passedIn s) op ≡ 0 = sym (h .number) in
     rw (h .state, none) (led-fit p s op r (rw none at (operate-fits p (passedIn s) op)))
-
--- "A refused operation changes no state": nor does it write an answer byte
-pub passed-refused : (p s : List ℕ) (op : Operation) (n : ℕ) (left : List ℕ) → Moves p s op n left → n ≢ 0 → left ≡ s
-passed-refused p s op n left h nz = h .state ∙ rw (ne-eqb _ 0 (λ e. nz (h .number ∙ e)))
-
-pub passed-unanswered : (p s : List ℕ) (t n lent byte : ℕ) → Asks p s t n lent byte → n ≢ 0 → byte ≡ lent
-passed-unanswered p s t n lent byte h nz = h .answer ∙ rw (ne-eqb _ 0 (λ e. nz (h .number ∙ e)))

@@ -9,7 +9,7 @@ use native.Mathlib.Omega.{arith}
 use lib.Dec.{ltb, eqb}
 use lib.ListN.{length, getD, take, drop, replicate, take-append-drop, length-drop, List·getD-eq-default}
 use lib.Pow.{pow-mono}
-use lib.Seq.{take-at, drop-at, drop-cons, getD-drop, sets, sets-eq}
+use lib.Seq.{take-at, drop-at, drop-cons, getD-drop, sets}
 use borrow.Author.Tests.{ltb-true, ltb-false, lt-ltb, le-ltb}
 use Rattle.bits.specs.Bit.{below}
 use Rattle.beliefs.specs.declared.Report.{Report}
@@ -190,10 +190,6 @@ module _ (bs : List ℕ) (b : Bytes bs) (a : Accepted bs) where
       let low : header bs % 256 ≡ getD bs 1 0 = omega (arith, b 1) in
       rw (headed-back, rows-written, value-targets bs, rows-bytes-back n k (drop 2 bs) m (bytes-drop 2 bs b), high, low)
       (sym (drop-cons bs 0 0 (omega (arith, a .headed)) ∙ ap (λ (l : List ℕ). getD bs 0 0 ∷ l) (drop-cons bs 1 0 (omega (arith, a .headed)))))
-
--- what is stored at the front of a buffer is found there
-pub front : (lent bs : List ℕ) → length bs ≤ length lent → take (length bs) (sets lent 0 bs) ≡ bs
-front lent bs h = ap (take (length bs)) (sets-eq bs lent 0 (omega arith)) ∙ take-at bs (drop (0 + length bs) lent) (length bs) refl
 
 -- what an accepted writing has done
 pub record Wrote (p lent left : List ℕ) (w : Report) : Type 0 where

@@ -11,10 +11,11 @@ use Rattle.beliefs.specs.declared.Report.{Report}
 use Rattle.beliefs.specs.Account.{Reports}
 use Rattle.beliefs.specs.Policy.{signers, targets, size, valid, readNumber, valueRead, bytesWritten, writing}
 use Rattle.policy.specs.Read.{PolicyRead, Bytes}
+use Rattle.beliefs.proofs.Lists.{front}
 use Rattle.beliefs.proofs.Policy.{ranges, ranges-valid}
 use Rattle.policy.proofs.Accepted.{accepted, accepted-number}
 use Rattle.policy.proofs.Value.{value-signers, value-targets, length-value}
-use Rattle.policy.proofs.Back.{word-read, written-length, accepted-back, value-ranges, written, front, wrote}
+use Rattle.policy.proofs.Back.{word-read, written-length, accepted-back, value-ranges, written, wrote}
 
 -- A valid value's bytes are accepted, and they are read as that value.
 pub read-back : (p : List ℕ) → length p ≡ 35 → valid p ≡ true → (readNumber (bytesWritten p) ≡ 0) × (valueRead (bytesWritten p) ≡ p)
@@ -31,6 +32,10 @@ written-back bs b e =
 -- Bytes that are accepted and read as the same value are the same bytes.
 pub one-form : (a b : List ℕ) → Bytes a → Bytes b → readNumber a ≡ 0 → readNumber b ≡ 0 → valueRead a ≡ valueRead b → a ≡ b
 one-form a b h k m n e = sym (written-back a h m .1 .1) ∙ ap bytesWritten e ∙ written-back b k n .1 .1
+
+-- What is read, where nothing refuses it.
+pub value-of : (bytes lent left : List ℕ) → PolicyRead bytes lent 0 left → left ≡ valueRead bytes
+value-of bytes lent left h = h .value ∙ rw (eq-eqb (readNumber bytes) 0 (sym (h .number)))
 
 -- Through the promises alone: what `write` leaves at the front of a buffer is accepted by `read`, and gives the value back.
 pub read-after-write : (p lent left : List ℕ) (w : Report) → length p ≡ 35 → Reports w lent left (writing p (length lent)) → w .number ≡ 0
@@ -49,7 +54,7 @@ pub write-after-read : (bs kept value : List ℕ) (n : ℕ) → Bytes bs → Pol
 unfolding writing
 write-after-read bs kept value n b q e lent left w h r =
     let number : readNumber bs ≡ 0 = sym (q .number) ∙ e in
-    let is : value ≡ valueRead bs = rw (eq-eqb _ _ number) at (q .value) in
+    let is : value ≡ valueRead bs = value-of bs kept value (rw e at q) in
     let back = written-back bs b number in
     let wanted : size (signers (valueRead bs)) (targets (valueRead bs)) ≡ length bs = rw (value-signers bs, value-targets bs) (sym (accepted bs number .whole)) in
     let account = rw (is, back .0, wanted, le-ltb (length lent) (length bs) h, back .1 .1) at r in

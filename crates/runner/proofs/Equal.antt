@@ -6,30 +6,27 @@ use Prim.Native.Nat.{ℕ}
 use lib.ListN.{length}
 use lib.Seq.{sets}
 use Rattle.beliefs.specs.declared.Report.{Report}
-use Rattle.beliefs.specs.Account.{Account, Reports}
+use Rattle.beliefs.specs.Account.{Reports}
 use Rattle.beliefs.specs.Trace.{run}
 use Rattle.beliefs.proofs.Counts.{kindOnly, uncounted, run-uncounted}
 
--- one list of answer bytes: the walk writes them, the other two write the kind of each; all three report the same
-pub record OneVerdict (lent : List ℕ) (w r q : Report) (by-walk by-record by-passed : List ℕ) : Type 0 where
-  pub bytes : List ℕ
-  pub walked : by-walk ≡ sets lent 0 bytes
-  pub recorded : by-record ≡ sets lent 0 (map kindOnly bytes)
-  pub passed : by-passed ≡ sets lent 0 (map kindOnly bytes)
+-- the walk writes the definition's answer bytes, the other two the kind of each; all three report the same
+pub record OneVerdict (p trace lent : List ℕ) (w r q : Report) (by-walk by-record by-passed : List ℕ) : Type 0 where
+  pub walked : by-walk ≡ sets lent 0 (run true p trace (length lent) .written)
+  pub recorded : by-record ≡ sets lent 0 (map kindOnly (run true p trace (length lent) .written))
+  pub passed : by-passed ≡ sets lent 0 (map kindOnly (run true p trace (length lent) .written))
   pub record-report : r ≡ w
   pub passed-report : q ≡ w
 
 -- from the three promises alone, for every policy, trace and lent buffer
 pub three-runs : (p trace lent : List ℕ) (w r q : Report) (by-walk by-record by-passed : List ℕ)
     → Reports w lent by-walk (run true p trace (length lent)) → Reports r lent by-record (run false p trace (length lent)) → Reports q lent by-passed (run false p trace (length lent))
-    → OneVerdict lent w r q by-walk by-record by-passed
+    → OneVerdict p trace lent w r q by-walk by-record by-passed
 three-runs p trace lent w r q by-walk by-record by-passed walk record′ passed′ =
-    let a : Account = run true p trace (length lent) in
-    let same : run false p trace (length lent) ≡ uncounted a = run-uncounted p trace (length lent) in
-    let x : Reports r lent by-record (uncounted a) = rw same at record′ in
-    let y : Reports q lent by-passed (uncounted a) = rw same at passed′ in
+    let same : run false p trace (length lent) ≡ uncounted (run true p trace (length lent)) = run-uncounted p trace (length lent) in
+    let x : Reports r lent by-record (uncounted (run true p trace (length lent))) = rw same at record′ in
+    let y : Reports q lent by-passed (uncounted (run true p trace (length lent))) = rw same at passed′ in
     record {
-      bytes = a .written;
       walked = walk .buffer;
       recorded = x .buffer;
       passed = y .buffer;

@@ -3,7 +3,7 @@ use mathlib.Core.Path.{_≡_, refl, sym, ap, ap₂, _∙_}
 use mathlib.Core.Bool.{true}
 use mathlib.Core.List.{List, [], _∷_, map}
 use mathlib.Core.Logic.{_≢_}
-use Prim.Native.Nat.{ℕ, suc, _+_, _-_, _^_, _≤_, _<_}
+use Prim.Native.Nat.{ℕ, suc, _+_, _-_, _≤_, _<_}
 use native.Mathlib.Omega.{arith}
 use lib.ListN.{getD, set, length, replicate}
 use lib.Pow.{pow-pos}
@@ -23,7 +23,7 @@ use Rattle.beliefs.specs.Policy.{signers, targets}
 use Rattle.beliefs.specs.Lists.{each}
 use Rattle.beliefs.proofs.Granted.{start-lt}
 use Rattle.beliefs.proofs.Policy.{Ranges, ranges, in-word}
-use Rattle.walk.specs.State.{depth, frameAt, framesAt, frames, inUse, unused, fits, put, remarked, markIn, newFrame, callIn, returnIn, checkIn, stepIn}
+use Rattle.walk.specs.State.{depth, frameAt, framesAt, frames, unused, fits, put, remarked, markIn, newFrame, callIn, returnIn, checkIn, stepIn}
 use Rattle.walk.specs.Coherent.{Sound, Pictures}
 use Rattle.walk.proofs.Frames.{length-put, put-frame, put-others, put-depth, set-depth, framesAt-same}
 use Rattle.walk.proofs.Fits.{Used, fitting, fits-after}
