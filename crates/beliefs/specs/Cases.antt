@@ -1,25 +1,29 @@
 -- "Cases on both sides": P1 to P10, from bytes, proved together by computing the definitions.
 use mathlib.Core.Path.{_≡_, refl}
-use mathlib.Core.Bool.{true}
+use mathlib.Core.Bool.{true, cond}
 use mathlib.Core.Option.{Option·elim}
 use mathlib.Core.List.{List, [], _∷_, map}
 use Prim.Native.Nat.{ℕ, _+_, _*_}
+use lib.Dec.{eqb}
 use lib.ListN.{replicate}
 use Rattle.bits.specs.Bit.{bit, withBit, withoutBit, below, lowest}
+use Rattle.beliefs.specs.declared.Seen.{Seen}
 use Rattle.beliefs.specs.declared.Operation.{Operation}
 use Rattle.beliefs.specs.declared.Operation.the-variants.{Call, Return, Enable, Disable, Revert, Check}
 use Rattle.beliefs.specs.Lists.{each}
 use Rattle.beliefs.specs.Account.{Account, told}
-use Rattle.beliefs.specs.Policy.{permits, rowFits, valid, mirrored, rowOf, rowsOf, valueRead}
+use Rattle.beliefs.specs.Policy.{permits, rowFits, valid, mirrored, rowOf, rowsOf, readNumber, valueRead}
 use Rattle.beliefs.specs.Stack.{marked, called, enable, disable, revert, granted, walk}
 use Rattle.beliefs.specs.Words.{operationOf, strayIn, outsideOf, decoded}
 use Rattle.beliefs.specs.Trace.{step, runFrom, stackAfter, run}
+use Rattle.beliefs.specs.Engine.{verdictByte}
 use Rattle.beliefs.specs.Derivation.{mayTake, follow, judge, judged, ours, derived}
 
--- the bytes of a policy, those of a trace, and what is asked: the trace's answers, the derivation for a target where the
--- trace ends, or whether a derivation is accepted there
+-- the bytes of a policy, those of a trace, and what is asked: the trace's answers, the walk's own answer byte for a target where the
+-- trace ends, the derivation for it, or whether a derivation is accepted there
 pub data Asked : Type 0 where
   answers : Asked
+  walked : ℕ → Asked
   derivation : ℕ → Asked
   acceptance : ℕ → List ℕ → Asked
 
@@ -29,14 +33,19 @@ pub record Case : Type 0 where
   pub asked : Asked
   pub expected : Account
 
--- what the definitions give, with room for 256 bytes
-abbrev found : List ℕ → List ℕ → Asked → Account
-found p trace answers = run true p trace 256
-found p trace (derivation t) = derived p (map marked (stackAfter p trace [])) t 256
-found p trace (acceptance t steps) = judged p (map marked (stackAfter p trace [])) t steps
-
 abbrev given : List ℕ → ℕ → Account
 given bytes n = record { number = 0; figure = n; written = bytes }
+
+-- what the definitions give under a policy, with room for 256 bytes
+abbrev under : List ℕ → List ℕ → Asked → Account
+under p trace answers = run true p trace 256
+under p trace (walked t) = let seen : Seen = walk p t (map marked (stackAfter p trace [])) in given (verdictByte (seen .granted) (seen .looked) ∷ []) 1
+under p trace (derivation t) = derived p (map marked (stackAfter p trace [])) t 256
+under p trace (acceptance t steps) = judged p (map marked (stackAfter p trace [])) t steps
+
+-- from the policy's bytes, which are read or refused
+abbrev found : List ℕ → List ℕ → Asked → Account
+found bytes trace asked = cond (eqb (readNumber bytes) 0) (under (valueRead bytes) trace asked) (told (readNumber bytes) 0)
 
 abbrev policy : ℕ → List ℕ
 policy first = first ∷ 0x10 ∷ 0xC0 ∷ 0x80 ∷ 0x00 ∷ []
@@ -63,6 +72,7 @@ A-says = refl
 abbrev A3 : List ℕ
 A3 = 0x00 ∷ 0x00 ∷ 0x40 ∷ 0x00 ∷ 0x01 ∷ 0x00 ∷ []
 
+-- An answer byte takes its verdict from the belief sets, and its count alone from the walk; so where a check is P6's or P7's, the walk is asked for itself too.
 abbrev pub cases : List Case
 cases =
     record { policy = policy 0x08; trace = A; asked = answers; expected = given (0x00 ∷ 0x00 ∷ 0x00 ∷ 0x42 ∷ 0x81 ∷ 0x00 ∷ 0x81 ∷ 0x00 ∷ 0x81 ∷ 0x00 ∷ 0x41 ∷ []) 11 }
@@ -73,11 +83,22 @@ cases =
     ∷ record { policy = policy 0x08; trace = A3; asked = acceptance 0 (0x03 ∷ []); expected = told 10 0 }
     ∷ record { policy = policy 0x08; trace = 0x02 ∷ 0x00 ∷ 0x40 ∷ 0x00 ∷ 0xA0 ∷ 0x00 ∷ []; asked = answers; expected = given (0x00 ∷ 0x00 ∷ 0x81 ∷ []) 3 }
     ∷ record { policy = policy 0x08; trace = 0x00 ∷ 0x00 ∷ 0x60 ∷ 0x00 ∷ 0x40 ∷ 0x00 ∷ 0xA0 ∷ 0x00 ∷ 0x80 ∷ 0x00 ∷ 0xA0 ∷ 0x00 ∷ []; asked = answers; expected = given (0x00 ∷ 0x00 ∷ 0x00 ∷ 0x41 ∷ 0x00 ∷ 0x81 ∷ []) 6 }
+    ∷ record { policy = policy 0x08; trace = 0x02 ∷ 0x00 ∷ 0x40 ∷ 0x00 ∷ []; asked = walked 0; expected = given (0x81 ∷ []) 1 }
+    ∷ record { policy = policy 0x08; trace = 0x00 ∷ 0x00 ∷ 0x60 ∷ 0x00 ∷ 0x40 ∷ 0x00 ∷ []; asked = walked 0; expected = given (0x41 ∷ []) 1 }
+    ∷ record { policy = policy 0x08; trace = 0x00 ∷ 0x00 ∷ 0x60 ∷ 0x00 ∷ 0x40 ∷ 0x00 ∷ 0x80 ∷ 0x00 ∷ []; asked = walked 0; expected = given (0x81 ∷ []) 1 }
     ∷ record { policy = policy 0x88; trace = 0x00 ∷ 0x00 ∷ 0xA0 ∷ 0x04 ∷ 0x80 ∷ 0x04 ∷ 0xA0 ∷ 0x04 ∷ []; asked = answers; expected = given (0x00 ∷ 0x41 ∷ 0x00 ∷ 0x81 ∷ []) 4 }
     ∷ record { policy = policy 0x08; trace = 0x00 ∷ 0x00 ∷ 0xA0 ∷ 0x00 ∷ []; asked = answers; expected = given (0x00 ∷ 0x81 ∷ []) 2 }
     ∷ record { policy = policy 0x08; trace = 0x20 ∷ 0x00 ∷ []; asked = answers; expected = told 7 0 }
     ∷ []
 
-pub proved : map (λ (c : Case). found (valueRead (c .policy)) (c .trace) (c .asked)) cases ≡ map (λ (c : Case). c .expected) cases
-unfolding run runFrom stackAfter step called enable disable revert granted walk decoded operationOf strayIn outsideOf permits valid rowFits each mirrored rowOf rowsOf valueRead bit withBit withoutBit below lowest derived ours judged judge follow mayTake Option·elim
+pub proved : map (λ (c : Case). found (c .policy) (c .trace) (c .asked)) cases ≡ map (λ (c : Case). c .expected) cases
+unfolding run runFrom stackAfter step called enable disable revert granted walk decoded operationOf strayIn outsideOf permits valid rowFits each mirrored rowOf rowsOf readNumber valueRead bit withBit withoutBit below lowest derived ours judged judge follow mayTake Option·elim
 proved = refl
+
+-- the order of reading: a header spare bit before too few bytes, bytes left over before padding; and each alone
+pub read-in-order : map readNumber (
+    (0x08 ∷ []) ∷ (0x08 ∷ 0x11 ∷ []) ∷ (0x08 ∷ 0x10 ∷ 0xA0 ∷ 0x80 ∷ []) ∷ (0x08 ∷ 0x10 ∷ 0xA0 ∷ 0x80 ∷ 0x00 ∷ 0x00 ∷ []) ∷ (0x08 ∷ 0x10 ∷ 0xA0 ∷ 0x80 ∷ 0x00 ∷ []) ∷ policy 0x08 ∷ []
+    )
+    ≡ (1 ∷ 3 ∷ 1 ∷ 2 ∷ 3 ∷ 0 ∷ [])
+unfolding readNumber rowsOf rowOf mirrored below
+read-in-order = refl
