@@ -22,18 +22,21 @@ use Rattle.policy.specs.Read.{PolicyRead, Bytes}
 use Rattle.policy.proofs.RoundTrip as round
 use Rattle.walk.specs.State as walks
 use Rattle.walk.specs.Coherent as stacks
-use Rattle.walk.proofs.Kept as walked
 use Rattle.walk.proofs.Agree.{agree}
+use Rattle.walk.proofs.Kept as walk-kept
+use Rattle.walk.proofs.Exists as walk-exists
 use Rattle.record.specs.Record as records
 use Rattle.record.specs.Pictures as chains
-use Rattle.record.proofs.Served as recorded
-use Rattle.record.proofs.Stays as recorded′
+use Rattle.record.proofs.Served as record-served
+use Rattle.record.proofs.Stays as record-stays′
 use Rattle.passed.specs.State.{passedFits}
 use Rattle.passed.specs.Picture.{PassedOf}
 use Rattle.runner.proofs.Equal.{OneVerdict, three-runs}
 use Rattle.derivation.specs.Promise.{checking}
 use Rattle.derivation.proofs.Demand.{unbarred}
 use Rattle.galmuvesh.specs.Boundary.{report, passedIn, Moves, Says, Asks}
+use Rattle.galmuvesh.proofs.Passing as passing
+use Rattle.galmuvesh.proofs.Passing.{returns}
 use Rattle.demands.specs.Exported.{PolicyWrote, WalkRan, RecordRan, PassedRan, WalkOperated, RecordOperated, DerivationWrote, DerivationChecked}
 use Rattle.demands.specs.Live.{WalkLived, RecordLived, PassedLived, Live, Answered, checkWord}
 use Rattle.demands.specs.Shown.{Settled}
@@ -89,20 +92,30 @@ pub one-verdict : (p trace lent : List ℕ) (n m k figure figure′ figure″ : 
 one-verdict p trace lent n m k figure figure′ figure″ by-walk by-record by-passed =
     three-runs p trace lent (report n figure) (report m figure′) (report k figure″) by-walk by-record by-passed
 
--- Live, under one valid policy: a state that lives from zeros by accepted operations is let through by number 14 and pictures the definition's stack, which is reached; so no operation is then
+-- Live: an accepted operation on a state that number 14 lets through leaves one that it lets through.
+pub walk-stays : (p s : List ℕ) (w lent n byte : ℕ) (left : List ℕ) → WalkOperated p s w lent n byte left → walks.fits p s ≡ true → walks.fits p left ≡ true
+walk-stays p s w lent n byte left h = walk-exists.operate-stays p s w n lent byte left h
+
+pub record-stays : (p s : List ℕ) (w lent n byte : ℕ) (left : List ℕ) → length s ≡ 4096 → RecordOperated p s w lent n byte left → records.recordFits p s ≡ true → records.recordFits p left ≡ true
+record-stays p s w lent n byte left long h = record-stays′.operate-stays p s w n lent byte left long h
+
+pub passed-stays : (p s : List ℕ) (op : Operation) (n : ℕ) (left : List ℕ) → returns op ≡ false → Moves p s op n left → passedFits p (passedIn s) ≡ true → passedFits p (passedIn left) ≡ true
+passed-stays p s op n left r h f = passing.moved-stays p s op r n left h f
+
+-- So under one valid policy: a state that lives from zeros by accepted operations is let through by number 14 and pictures the definition's stack, which is reached; so no operation is then
 -- refused by 13 or 14, and every answer is the definition's.
 module _ (p : List ℕ) (v : valid p ≡ true) where
   pub walk-live : (s : List ℕ) (st : List Frame) → WalkLived p s st → Live (stacks.Pictures p) (walks.fits p) p s st
-  walk-live = live.live p v (stacks.Pictures p) true (walks.fits p) (walks.stepIn p) 190 (walked.fresh p) (λ s st h. h .fits)
+  walk-live = live.live p v (stacks.Pictures p) true (walks.fits p) (walks.stepIn p) 190 (walk-kept.fresh p) (λ s st h. h .fits)
 
   pub walk-answers : (s : List ℕ) (st : List Frame) → WalkLived p s st → (w lent n byte : ℕ) (left : List ℕ) → WalkOperated p s w lent n byte left → Answered true p st w lent n byte
-  walk-answers = live.answered p v (stacks.Pictures p) true (walks.fits p) (walks.stepIn p) 190 (walked.fresh p) (λ s st h. h .fits)
+  walk-answers = live.answered p v (stacks.Pictures p) true (walks.fits p) (walks.stepIn p) 190 (walk-kept.fresh p) (λ s st h. h .fits)
 
   pub record-live : (s : List ℕ) (st : List Frame) → RecordLived p s st → Live (chains.Pictures p) (records.recordFits p) p s st
-  record-live = live.live p v (chains.Pictures p) false (records.recordFits p) (records.stepIn p) 4096 (recorded.fresh p) (recorded′.fits p)
+  record-live = live.live p v (chains.Pictures p) false (records.recordFits p) (records.stepIn p) 4096 (record-served.fresh p) (record-stays′.fits p)
 
   pub record-answers : (s : List ℕ) (st : List Frame) → RecordLived p s st → (w lent n byte : ℕ) (left : List ℕ) → RecordOperated p s w lent n byte left → Answered false p st w lent n byte
-  record-answers = live.answered p v (chains.Pictures p) false (records.recordFits p) (records.stepIn p) 4096 (recorded.fresh p) (recorded′.fits p)
+  record-answers = live.answered p v (chains.Pictures p) false (records.recordFits p) (records.stepIn p) 4096 (record-served.fresh p) (record-stays′.fits p)
 
   -- The passed state, over a host's own nesting.
   module _ (s : List ℕ) (kept : List (List ℕ)) (st : List Frame) (l : PassedLived p (s ∷ kept) st) where
@@ -137,6 +150,13 @@ module _ (p : List ℕ) (v : valid p ≡ true) where
     unfolding step
     passed-verdict s kept h lent n byte o = let a = passed-answers s kept (f ∷ r) h t n lent byte o .0 l in (a .number, a .answer)
 
+    pub one-verdict-live : (s q x : List ℕ) (kept : List (List ℕ)) → WalkLived p s (f ∷ r) → RecordLived p q (f ∷ r) → PassedLived p (x ∷ kept) (f ∷ r)
+        → (lent n m k by-walk by-record by-passed : ℕ) (left left′ : List ℕ)
+        → WalkOperated p s (checkWord t) lent n by-walk left → RecordOperated p q (checkWord t) lent m by-record left′ → Asks p x t k lent by-passed
+        → (by-walk ≡ verdictByte verdict count) × (by-record ≡ verdictByte verdict 0) × (by-passed ≡ verdictByte verdict 0)
+    one-verdict-live s q x kept h h′ h″ lent n m k by-walk by-record by-passed left left′ o o′ o″ =
+        (walk-verdict s h lent n by-walk left o .1, record-verdict q h′ lent m by-record left′ o′ .1, passed-verdict x kept h″ lent k by-passed o″ .1)
+
 -- "A policy has exactly one byte form, and comes back the same when written and read": bytes that are read as one value are the same bytes; what is written for a value is read as that
 -- value, and bytes that are read are written again for the value that they gave.
 pub one-form : (a b lent lent′ value : List ℕ) → Bytes a → Bytes b → PolicyRead a lent 0 value → PolicyRead b lent′ 0 value → a ≡ b
@@ -162,10 +182,6 @@ checker-judges p s t steps n figure v f h = let a = rw (v, f) at h in (a .number
 module _ (p s : List ℕ) (t : ℕ) (v : valid p ≡ true) (f : walks.fits p s ≡ true) (framed : getD s 0 0 ≢ 0) (l : t < targets p) where
   pub shown-on-state : Settled p s t (walk p t (walks.frames s) .looked) (walk p t (walks.frames s) .granted)
   shown-on-state = showing.settled p s t (unbarred p s t v f framed l)
-
-  pub written-down : walk p t (walks.frames s) .granted ≡ true → (lent : List ℕ) → 3 * walk p t (walks.frames s) .looked + 1 ≤ length lent
-      → (n figure : ℕ) (left : List ℕ) → DerivationWrote p s t lent n figure left → (n ≡ 0) × (figure ≡ 3 * walk p t (walks.frames s) .looked + 1)
-  written-down = showing.writes p s t (unbarred p s t v f framed l)
 
 -- What the writer leaves where it returns 0, on any arguments, is accepted, and the checker's figure is the writer's: 3n + 1.
 pub written-accepted : (p s : List ℕ) (t : ℕ) (lent : List ℕ) (figure : ℕ) (left : List ℕ) → DerivationWrote p s t lent 0 figure left

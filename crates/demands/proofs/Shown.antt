@@ -29,27 +29,7 @@ module _ (p s : List ℕ) (t : ℕ) where
       let told = ours-checked p s t b g in
       (h .number ∙ ap (λ (a : Account). a .number) told, h .figure ∙ ap (λ (a : Account). a .figure) told)
 
-  pub settled : barred p s t ≡ 0 → Settled p s t looked (walk p t (frames s) .granted)
-  settled b = record {
-    exactly = (
-      λ some. checked-granted p s t (some .0) (sym (some .2 .1 .number)),
-      λ g. let told = ours-checked p s t b g in
-          (ours looked, ours-bytes looked (looked-few p s t), (3 * looked + 1, record { number = sym (ap (λ (a : Account). a .number) told); figure = sym (ap (λ (a : Account). a .figure) told) })),
-    );
-    ours-accepted = accepted b;
-    ours-count = ours-length looked;
-    ours-bytes = ours-bytes looked (looked-few p s t);
-    none-shorter = λ steps figure h. checked-enough p s t steps (sym (h .number));
-    figure = λ steps figure h. h .figure ∙ checked-figure p s t steps (sym (h .number));
-  }
-
-  -- the writer, given room where the walk grants
-  pub writes : barred p s t ≡ 0 → grants → (lent : List ℕ) → 3 * looked + 1 ≤ length lent → (n figure : ℕ) (left : List ℕ) → DerivationWrote p s t lent n figure left → (n ≡ 0) × (figure ≡ 3 * looked + 1)
-  writes b g lent room n figure left h =
-      let told = ours-written p s t (length lent) b g room in
-      (h .number ∙ ap (λ (a : Account). a .number) told, h .figure ∙ ap (λ (a : Account). a .figure) told)
-
-  -- and what it leaves where it returns 0
+  -- what the writer leaves where it returns 0
   module _ (lent : List ℕ) (figure : ℕ) (left : List ℕ) (h : DerivationWrote p s t lent 0 figure left) where
     through : barred p s t ≡ 0
     through = written-unbarred p s t (length lent) (sym (h .number))
@@ -72,3 +52,26 @@ module _ (p s : List ℕ) (t : ℕ) where
     left-accepted n f c =
         let a = accepted through granted-here n f (rw left-ours at c) in
         (a .0, a .1 ∙ sym left-figure)
+
+  -- the writer, given room where the walk grants
+  writes : barred p s t ≡ 0 → grants → (lent : List ℕ) → 3 * looked + 1 ≤ length lent
+      → (n figure : ℕ) (left : List ℕ) → DerivationWrote p s t lent n figure left → (n ≡ 0) × (figure ≡ 3 * looked + 1) × (take figure left ≡ ours looked)
+  writes b g lent room n figure left h =
+      let told = ours-written p s t (length lent) b g room in
+      let done : n ≡ 0 = h .number ∙ ap (λ (a : Account). a .number) told in
+      (done, h .figure ∙ ap (λ (a : Account). a .figure) told, left-ours lent figure left (rw done at h))
+
+  pub settled : barred p s t ≡ 0 → Settled p s t looked (walk p t (frames s) .granted)
+  settled b = record {
+    exactly = (
+      λ some. checked-granted p s t (some .0) (sym (some .2 .1 .number)),
+      λ g. let told = ours-checked p s t b g in
+          (ours looked, ours-bytes looked (looked-few p s t), (3 * looked + 1, record { number = sym (ap (λ (a : Account). a .number) told); figure = sym (ap (λ (a : Account). a .figure) told) })),
+    );
+    ours-accepted = accepted b;
+    ours-count = ours-length looked;
+    ours-bytes = ours-bytes looked (looked-few p s t);
+    ours-written = writes b;
+    none-shorter = λ steps figure h. checked-enough p s t steps (sym (h .number));
+    figure = λ steps figure h. h .figure ∙ checked-figure p s t steps (sym (h .number));
+  }

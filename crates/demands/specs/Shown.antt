@@ -1,13 +1,13 @@
--- Demand 3 of a walk state and a target: what the checker of the C boundary accepts, for a verdict and a number of frames looked at.
+-- Demand 3 of a walk state and a target: what the checker of the C boundary accepts and what its writer writes, for a verdict and a number of frames looked at.
 use mathlib.Core.Path.{_≡_}
 use mathlib.Core.Logic.{_↔_}
 use mathlib.Core.Bool.{Bool, true}
 use mathlib.Core.List.{List}
 use Prim.Native.Nat.{ℕ, _+_, _*_, _≤_}
-use lib.ListN.{length}
+use lib.ListN.{length, take}
 use Rattle.beliefs.specs.Derivation.{ours}
 use Rattle.policy.specs.Read.{Bytes}
-use Rattle.demands.specs.Exported.{DerivationChecked}
+use Rattle.demands.specs.Exported.{DerivationWrote, DerivationChecked}
 
 pub record Settled (p s : List ℕ) (t n : ℕ) (verdict : Bool) : Type 0 where
   -- some bytes are accepted exactly when the check is granted, whoever wrote them
@@ -16,7 +16,10 @@ pub record Settled (p s : List ℕ) (t n : ℕ) (verdict : Bool) : Type 0 where
   pub ours-accepted : verdict ≡ true → (number figure : ℕ) → DerivationChecked p s t (ours n) number figure → (number ≡ 0) × (figure ≡ 3 * n + 1)
   pub ours-count : length (ours n) ≡ 3 * n + 1
   pub ours-bytes : Bytes (ours n)
-  -- and none that are accepted are fewer
+  -- and our writer, given room, writes them
+  pub ours-written : verdict ≡ true → (lent : List ℕ) → 3 * n + 1 ≤ length lent → (number figure : ℕ) (left : List ℕ) → DerivationWrote p s t lent number figure left
+      → (number ≡ 0) × (figure ≡ 3 * n + 1) × (take figure left ≡ ours n)
+  -- none that are accepted are fewer
   pub none-shorter : (steps : List ℕ) (figure : ℕ) → DerivationChecked p s t steps 0 figure → 3 * n + 1 ≤ length steps
   -- the figure of accepted steps is their number
   pub figure : (steps : List ℕ) (figure : ℕ) → DerivationChecked p s t steps 0 figure → figure ≡ length steps

@@ -98,7 +98,7 @@ module _ (p s : List ℕ) where
     serves = λ v f i st h. rw (b, a) (says p s st h (refusalOf p (passedIn s) (Check t)) t lent (eqb (refusalOf p (passedIn s) (Check t)) 0) refl (goes (Check t) v f i st h));
   })
 
--- an accepted operation leaves words that number 14 lets through
+-- an operation on words that number 14 lets through leaves such words
 led-fit : (p s : List ℕ) (op : Operation) → returns op ≡ false → Fit p (ledTo p (passedIn s) op) → passedFits p (after p (passedIn s) op) ≡ true
 unfolding ledTo
 led-fit p s (Call g) e f = f
@@ -113,3 +113,10 @@ unfolding operateOf
 moved-fits p s op r left h =
     let none : refusalOf p (passedIn s) op ≡ 0 = sym (h .number) in
     rw (h .state, none) (led-fit p s op r (rw none at (operate-fits p (passedIn s) op)))
+
+pub moved-stays : (p s : List ℕ) (op : Operation) → returns op ≡ false → (n : ℕ) (left : List ℕ) → Moves p s op n left → passedFits p (passedIn s) ≡ true → passedFits p (passedIn left) ≡ true
+moved-stays p s op r n left h f = go (eqb n 0) refl
+  where
+    go : (e : Bool) → eqb n 0 ≡ e → passedFits p (passedIn left) ≡ true
+    go true q = moved-fits p s op r left (rw (eqb-true n 0 q) at h)
+    go false q = rw (h .state, ← h .number, q) f

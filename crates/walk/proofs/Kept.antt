@@ -95,9 +95,9 @@ module _ (p s : List ℕ) (long : length s ≡ 190) (ok : Ranges p) where
             (λ _. rw top′ (new-used g known st)) (λ past. absurd (omega arith));
       })
 
-  -- return: zeros in the newest frame's place
-  vacated : (k n : ℕ) (f : Frame) (r : List Frame) → k ≡ length r → n ≡ length r → Pictures p s (f ∷ r) → Pictures p (set (put s k nobody) 0 n) r
-  vacated k n f r e e′ h =
+  -- return: zeros in the newest frame's place, above k others, and the depth n
+  return-kept : (k n : ℕ) (f : Frame) (r : List Frame) → k ≡ length r → n ≡ length r → Pictures p s (f ∷ r) → Pictures p (set (put s k nobody) 0 n) r
+  return-kept k n f r e e′ h =
       let s′ : List ℕ = set (put s k nobody) 0 n in
       let room : suc (length r) ≤ 63 = h .room in
       let d : depth s ≡ suc (length r) = high p s (f ∷ r) h in
@@ -111,9 +111,6 @@ module _ (p s : List ℕ) (long : length s ≡ 190) (ok : Ranges p) where
         fits = fits-after p s s′ k n (h .fits) deep′ (omega arith) (λ j o. (said-others s long k nobody n j o, (λ low. omega arith, λ far. omega arith)))
             (λ above. absurd (omega arith)) (λ _. said-frame s long k nobody n (omega arith));
       }
-
-  return-kept : (f : Frame) (r : List Frame) → Pictures p s (f ∷ r) → Pictures p (set (put s (depth s - 1) nobody) 0 (depth s - 1)) r
-  return-kept f r h = vacated _ _ f r (omega (arith, high p s (f ∷ r) h)) (omega (arith, high p s (f ∷ r) h)) h
 
   -- enable, disable, revert: the newest frame with other marks
   mark-kept : (op : Operation) (f g : Frame) (r : List Frame) → remarked op (marked f) ≡ marked g → (Used p (marked f) → Used p (marked g)) → Sound p g r → Pictures p s (f ∷ r)
@@ -160,7 +157,7 @@ module _ (p s : List ℕ) (long : length s ≡ 190) (ok : Ranges p) where
   pub simulate : (op : Operation) → inside p op ≡ true → (st : List Frame) → Pictures p s st → Mirrors (Pictures p) true (stepIn p s op) (step p op st)
   unfolding step markIn callIn returnIn checkIn enable disable revert
   simulate (Call g) i st h = call-mirrors (Pictures p) true s (depth s) (high p s) p g _ (call-kept g (ltb-true g (signers p) i)) st h
-  simulate Return i st h = return-mirrors (Pictures p) true s (depth s) (high p s) _ return-kept st h
+  simulate Return i st h = return-mirrors (Pictures p) true s (depth s) (high p s) _ (λ f r k. return-kept _ _ f r (omega (arith, high p s (f ∷ r) k)) (omega (arith, high p s (f ∷ r) k)) k) st h
   simulate (Enable t) i st h = newest-mirrors (Pictures p) true s (depth s) (high p s) _ (enable t) (λ f r k. mark-kept (Enable t) f (enable t f) r refl (enable-used t (ltb-true t (targets p) i) f) (enable-sound p t f r (k .coherent .0) (in-word p ok t i)) k) st h
   simulate (Disable t) i st h = newest-mirrors (Pictures p) true s (depth s) (high p s) _ (disable t) (λ f r k. mark-kept (Disable t) f (disable t f) r refl (disable-used t (ltb-true t (targets p) i) f) (disable-sound p t f r (k .coherent .0) (in-word p ok t i)) k) st h
   simulate (Revert t) i st h = newest-mirrors (Pictures p) true s (depth s) (high p s) _ (revert t) (λ f r k. mark-kept (Revert t) f (revert t f) r refl (revert-used t f) (revert-sound p t f r (k .coherent .0)) k) st h
