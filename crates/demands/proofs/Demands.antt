@@ -1,6 +1,6 @@
 -- The three demands. Each theorem stands under the mission's sentence that it answers, and ends at a function of the C boundary: it speaks of document 01's definitions and of what that
 -- function promises alone (specs/Exported.antt). Assumes nothing.
-use mathlib.Core.Path.{_≡_, refl, sym, _∙_}
+use mathlib.Core.Path.{_≡_, refl, sym, ap, _∙_}
 use mathlib.Core.Logic.{_≢_}
 use mathlib.Core.Bool.{Bool, true, false}
 use mathlib.Core.List.{List, _∷_, map}
@@ -11,13 +11,17 @@ use lib.Seq.{sets}
 use borrow.Author.Tests.{ne-eqb, lt-ltb}
 use Rattle.beliefs.specs.declared.Operation.{Operation}
 use Rattle.beliefs.specs.declared.Operation.the-variants.{Check}
-use Rattle.beliefs.specs.Policy.{targets, valid, readNumber}
+use Rattle.beliefs.specs.declared.Decoded.{Decoded}
+use Rattle.beliefs.specs.declared.Decoded.the-variants.{Word}
+use Rattle.beliefs.specs.Policy.{signers, targets, valid, readNumber}
 use Rattle.beliefs.specs.Stack.{Frame, marked, granted, walk}
-use Rattle.beliefs.specs.Trace.{kindOf, step}
+use Rattle.beliefs.specs.Words.{decoded}
+use Rattle.beliefs.specs.Trace.{kindOf, step, served}
 use Rattle.beliefs.specs.Derivation.{judged}
 use Rattle.beliefs.specs.Engine.{inside, verdictByte}
 use Rattle.beliefs.proofs.Counts.{looked-le}
 use Rattle.beliefs.proofs.Policy.{ranges}
+use Rattle.beliefs.proofs.Words.{decoded-fair}
 use Rattle.policy.specs.Read.{PolicyRead, Bytes}
 use Rattle.policy.proofs.RoundTrip as round
 use Rattle.walk.specs.State as walks
@@ -92,7 +96,7 @@ pub one-verdict : (p trace lent : List ℕ) (n m k figure figure′ figure″ : 
 one-verdict p trace lent n m k figure figure′ figure″ by-walk by-record by-passed =
     three-runs p trace lent (report n figure) (report m figure′) (report k figure″) by-walk by-record by-passed
 
--- Live: an accepted operation on a state that number 14 lets through leaves one that it lets through.
+-- Live: an operation on a state that number 14 lets through leaves one that it lets through. (Of a passed state, each that has a function: a return is the host's.)
 pub walk-stays : (p s : List ℕ) (w lent n byte : ℕ) (left : List ℕ) → WalkOperated p s w lent n byte left → walks.fits p s ≡ true → walks.fits p left ≡ true
 walk-stays p s w lent n byte left h = walk-exists.operate-stays p s w n lent byte left h
 
@@ -132,6 +136,17 @@ module _ (p : List ℕ) (v : valid p ≡ true) where
         let few : n ≤ 8 = rw (h .number) (nested.refusal-number p (passedIn s) (Check t) v (passed-live .let-through)) in
         (λ i. h .serves v (passed-live .let-through) (lt-ltb t (targets p) i) st (passed-live .pictures), omega arith, omega arith)
 
+  -- Over one stack a word has one number by walk and record, and so has its operation on a passed state: the three accept together, and go on over one stack.
+  pub one-number-live : (st : List Frame) (s q : List ℕ) → WalkLived p s st → RecordLived p q st → (w lent n byte lent′ m byte′ : ℕ) (left left′ : List ℕ)
+      → WalkOperated p s w lent n byte left → RecordOperated p q w lent′ m byte′ left′ → n ≡ m
+  one-number-live st s q h k w lent n byte lent′ m byte′ left left′ a b = walk-answers s st h w lent n byte left a .number ∙ sym (record-answers q st k w lent′ m byte′ left′ b .number)
+
+  pub passed-number-live : (st : List Frame) (s x : List ℕ) (kept : List (List ℕ)) → WalkLived p s st → PassedLived p (x ∷ kept) st → (w : ℕ) (op : Operation)
+      → decoded (signers p) (targets p) w 0 ≡ Word (record { op = op; index = 0 }) → (lent n byte k : ℕ) (left left′ : List ℕ) → WalkOperated p s w lent n byte left → Moves p x op k left′ → k ≡ n
+  passed-number-live st s x kept h l w op d lent n byte k left left′ a b =
+      let own : inside p op ≡ true = rw d at (decoded-fair p w 0) in
+      passed-moves x kept st l op k left′ b .0 own ∙ sym (walk-answers s st h w lent n byte left a .number ∙ ap (λ (x : Decoded). served p x st .number) d)
+
   -- So the three give one verdict live, the belief sets', and the walk the definition's count with it.
   module _ (f : Frame) (r : List Frame) (t : ℕ) (l : t < targets p) where
     abbrev verdict : Bool
@@ -153,9 +168,12 @@ module _ (p : List ℕ) (v : valid p ≡ true) where
     pub one-verdict-live : (s q x : List ℕ) (kept : List (List ℕ)) → WalkLived p s (f ∷ r) → RecordLived p q (f ∷ r) → PassedLived p (x ∷ kept) (f ∷ r)
         → (lent n m k by-walk by-record by-passed : ℕ) (left left′ : List ℕ)
         → WalkOperated p s (checkWord t) lent n by-walk left → RecordOperated p q (checkWord t) lent m by-record left′ → Asks p x t k lent by-passed
-        → (by-walk ≡ verdictByte verdict count) × (by-record ≡ verdictByte verdict 0) × (by-passed ≡ verdictByte verdict 0)
+        → (n ≡ 0) × (m ≡ 0) × (k ≡ 0) × (by-walk ≡ verdictByte verdict count) × (by-record ≡ verdictByte verdict 0) × (by-passed ≡ verdictByte verdict 0)
     one-verdict-live s q x kept h h′ h″ lent n m k by-walk by-record by-passed left left′ o o′ o″ =
-        (walk-verdict s h lent n by-walk left o .1, record-verdict q h′ lent m by-record left′ o′ .1, passed-verdict x kept h″ lent k by-passed o″ .1)
+        let w = walk-verdict s h lent n by-walk left o in
+        let r = record-verdict q h′ lent m by-record left′ o′ in
+        let p = passed-verdict x kept h″ lent k by-passed o″ in
+        (w .0, r .0, p .0, w .1, r .1, p .1)
 
 -- "A policy has exactly one byte form, and comes back the same when written and read": bytes that are read as one value are the same bytes; what is written for a value is read as that
 -- value, and bytes that are read are written again for the value that they gave.
