@@ -18,7 +18,7 @@ use Rattle.beliefs.specs.Account.{Account, told, before}
 use Rattle.beliefs.specs.Policy.{signers, targets, permits, valid}
 use Rattle.beliefs.specs.Stack.{Frame, marked, walk, decides, goesOn, called}
 use Rattle.beliefs.specs.Words.{decoded}
-use Rattle.beliefs.specs.Trace.{Outcome, refuse, done, byNewest, step, served, answerByte, runFrom, run}
+use Rattle.beliefs.specs.Trace.{Outcome, refuse, done, byNewest, step, served, answerByte, kindOnly, runFrom, run}
 
 looked-step : (q e d : Bool) (v : Seen) (n : ℕ) → v .looked ≤ n → cond q (cond e (decides true) (cond d (decides false) (goesOn v))) (decides false) .looked ≤ suc n
 looked-step false e d v n h = omega arith
@@ -59,10 +59,6 @@ module _ (p : List ℕ) where
   served-low : (d : Decoded) (st : List Frame) → length st ≤ 63 → Low (served p d st)
   served-low (Word x) st h = step-low (x .op) st h
   served-low (Refused n) st h = record { room = h; few = omega arith }
-
--- the kind alone
-abbrev pub kindOnly : ℕ → ℕ
-kindOnly b = b / 64 * 64
 
 abbrev pub uncounted : Account → Account
 uncounted a = record { number = a .number; figure = a .figure; written = map kindOnly (a .written) }

@@ -1,6 +1,6 @@
 -- For every engine: what is exactly given serves the belief sets, and each way out of an engine's `operate` keeps its promise. Assumes nothing.
 use mathlib.Core.Path.{_≡_, refl, sym, ap, ap₂, _∙_}
-use mathlib.Core.Logic.{_≢_}
+use mathlib.Core.Logic.{_≢_, _⊎_, inl, inr}
 use mathlib.Core.Bool.{Bool, true, false, cond}
 use mathlib.Core.List.{List, [], _∷_, map}
 use Prim.Native.Nat.{ℕ, suc, _+_, _<_}
@@ -22,6 +22,15 @@ use Rattle.beliefs.specs.Words.{decoded}
 use Rattle.beliefs.specs.Trace.{Outcome, refuse, done, byNewest, returned, checked, answerByte, step}
 use Rattle.beliefs.specs.Engine.{inside, Moved, refuseIn, doneIn, verdictByte, verdictIn, framedIn, deeperIn, Gives, Serves, Serve, guarded, Answers, Operate}
 use Rattle.beliefs.proofs.Words.{decoded-fair}
+
+-- a call is done or refused by 8
+pub call-step : (p : List ℕ) (g : ℕ) (st : List Frame) → (step p (Call g) st ≡ done (called p g st ∷ st)) ⊎ (step p (Call g) st ≡ refuse tooDeep st)
+unfolding step
+call-step p g st = go (ltb (length st) 63)
+  where
+    go : (e : Bool) → (cond e (done (called p g st ∷ st)) (refuse tooDeep st) ≡ done (called p g st ∷ st)) ⊎ (cond e (done (called p g st ∷ st)) (refuse tooDeep st) ≡ refuse tooDeep st)
+    go true = inl refl
+    go false = inr refl
 
 -- what an engine's own definition gives mirrors what the definition's step gives, over what its state pictures
 module _ (Pictures : List ℕ → List Frame → Type 0) (counts : Bool) where

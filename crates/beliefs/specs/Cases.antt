@@ -7,12 +7,13 @@ use Prim.Native.Nat.{ℕ, _+_, _*_}
 use lib.Dec.{eqb}
 use lib.ListN.{replicate}
 use Rattle.bits.specs.Bit.{bit, withBit, withoutBit, below, lowest}
+use Rattle.beliefs.specs.declared.Marked.{Marked}
 use Rattle.beliefs.specs.declared.Seen.{Seen}
 use Rattle.beliefs.specs.declared.Operation.{Operation}
 use Rattle.beliefs.specs.declared.Operation.the-variants.{Call, Return, Enable, Disable, Revert, Check}
 use Rattle.beliefs.specs.Lists.{each}
 use Rattle.beliefs.specs.Account.{Account, told}
-use Rattle.beliefs.specs.Policy.{permits, rowFits, valid, mirrored, rowOf, rowsOf, readNumber, valueRead}
+use Rattle.beliefs.specs.Policy.{permits, rowFits, valid, mirrored, rowOf, rowsOf, readNumber, valueRead, writing}
 use Rattle.beliefs.specs.Stack.{marked, called, enable, disable, revert, granted, walk}
 use Rattle.beliefs.specs.Words.{operationOf, strayIn, outsideOf, decoded}
 use Rattle.beliefs.specs.Trace.{step, runFrom, stackAfter, run}
@@ -72,7 +73,7 @@ A-says = refl
 abbrev A3 : List ℕ
 A3 = 0x00 ∷ 0x00 ∷ 0x40 ∷ 0x00 ∷ 0x01 ∷ 0x00 ∷ []
 
--- An answer byte takes its verdict from the belief sets, and its count alone from the walk; so where a check is P6's or P7's, the walk is asked for itself too.
+-- P1 to P10; after P5 a drop where T is not the last entry; and after P7 the checks of P6 and P7 by the walk alone, since an answer byte has its verdict from the belief sets, and only its count from the walk.
 abbrev pub cases : List Case
 cases =
     record { policy = policy 0x08; trace = A; asked = answers; expected = given (0x00 ∷ 0x00 ∷ 0x00 ∷ 0x42 ∷ 0x81 ∷ 0x00 ∷ 0x81 ∷ 0x00 ∷ 0x81 ∷ 0x00 ∷ 0x41 ∷ []) 11 }
@@ -81,6 +82,7 @@ cases =
     ∷ record { policy = policy 0x08; trace = A3; asked = acceptance 0 (0x02 ∷ 0x40 ∷ 0x41 ∷ 0x80 ∷ 0x81 ∷ 0xC0 ∷ []); expected = told 11 0 }
     ∷ record { policy = policy 0x08; trace = A3; asked = acceptance 0 []; expected = told 11 0 }
     ∷ record { policy = policy 0x08; trace = A3; asked = acceptance 0 (0x03 ∷ []); expected = told 10 0 }
+    ∷ record { policy = policy 0x08; trace = A3; asked = acceptance 0 (0x02 ∷ 0x40 ∷ 0x80 ∷ 0xC0 ∷ []); expected = told 10 3 }
     ∷ record { policy = policy 0x08; trace = 0x02 ∷ 0x00 ∷ 0x40 ∷ 0x00 ∷ 0xA0 ∷ 0x00 ∷ []; asked = answers; expected = given (0x00 ∷ 0x00 ∷ 0x81 ∷ []) 3 }
     ∷ record { policy = policy 0x08; trace = 0x00 ∷ 0x00 ∷ 0x60 ∷ 0x00 ∷ 0x40 ∷ 0x00 ∷ 0xA0 ∷ 0x00 ∷ 0x80 ∷ 0x00 ∷ 0xA0 ∷ 0x00 ∷ []; asked = answers; expected = given (0x00 ∷ 0x00 ∷ 0x00 ∷ 0x41 ∷ 0x00 ∷ 0x81 ∷ []) 6 }
     ∷ record { policy = policy 0x08; trace = 0x02 ∷ 0x00 ∷ 0x40 ∷ 0x00 ∷ []; asked = walked 0; expected = given (0x81 ∷ []) 1 }
@@ -95,10 +97,28 @@ pub proved : map (λ (c : Case). found (c .policy) (c .trace) (c .asked)) cases 
 unfolding run runFrom stackAfter step called enable disable revert granted walk decoded operationOf strayIn outsideOf permits valid rowFits each mirrored rowOf rowsOf readNumber valueRead bit withBit withoutBit below lowest derived ours judged judge follow mayTake Option·elim
 proved = refl
 
--- the order of reading: a header spare bit before too few bytes, bytes left over before padding; and each alone
+-- the orders of refusal: reading a policy, a header spare bit before too few bytes and bytes left over before padding; each alone
 pub read-in-order : map readNumber (
     (0x08 ∷ []) ∷ (0x08 ∷ 0x11 ∷ []) ∷ (0x08 ∷ 0x10 ∷ 0xA0 ∷ 0x80 ∷ []) ∷ (0x08 ∷ 0x10 ∷ 0xA0 ∷ 0x80 ∷ 0x00 ∷ 0x00 ∷ []) ∷ (0x08 ∷ 0x10 ∷ 0xA0 ∷ 0x80 ∷ 0x00 ∷ []) ∷ policy 0x08 ∷ []
     )
     ≡ (1 ∷ 3 ∷ 1 ∷ 2 ∷ 3 ∷ 0 ∷ [])
 unfolding readNumber rowsOf rowOf mirrored below
 read-in-order = refl
+
+-- writing one, 13 before 9; a run, 13 before 1 before 9; writing a derivation, 6 before 7 before 12 before 9; checking one, 6 before 7 before 10 before 11
+abbrev none : List ℕ
+none = 0 ∷ 0 ∷ 2 ∷ []
+
+abbrev frames : List ℕ → List Marked
+frames trace = map marked (stackAfter (valueRead (policy 0x08)) trace [])
+
+pub refused-in-order : map (λ (a : Account). a .number) (
+    writing none 0 ∷ writing (valueRead (policy 0x08)) 4 ∷ run true none (0x00 ∷ []) 0 ∷ run true (valueRead (policy 0x08)) (0x00 ∷ 0x00 ∷ 0x00 ∷ []) 0 ∷ run true (valueRead (policy 0x08)) (0xC0 ∷ 0x00 ∷ []) 0
+    ∷ derived (valueRead (policy 0x08)) [] 2 0 ∷ derived (valueRead (policy 0x08)) [] 1 0 ∷ derived (valueRead (policy 0x08)) (frames (0x00 ∷ 0x00 ∷ [])) 0 0
+    ∷ derived (valueRead (policy 0x08)) (frames A3) 0 6
+    ∷ judged (valueRead (policy 0x08)) [] 2 (0x00 ∷ []) ∷ judged (valueRead (policy 0x08)) [] 1 (0x00 ∷ []) ∷ judged (valueRead (policy 0x08)) (frames A3) 0 (0x02 ∷ 0x40 ∷ 0x40 ∷ [])
+    ∷ judged (valueRead (policy 0x08)) (frames A3) 0 (0x02 ∷ 0x40 ∷ []) ∷ []
+    )
+    ≡ (13 ∷ 9 ∷ 13 ∷ 1 ∷ 9 ∷ 6 ∷ 7 ∷ 12 ∷ 9 ∷ 6 ∷ 7 ∷ 10 ∷ 11 ∷ [])
+unfolding run runFrom stackAfter step called enable disable revert granted walk decoded operationOf strayIn outsideOf permits valid rowFits each mirrored rowOf rowsOf valueRead writing bit withBit withoutBit below lowest derived ours judged judge follow mayTake Option·elim
+refused-in-order = refl

@@ -69,6 +69,10 @@ served p (Refused n) st = refuse n st
 abbrev pub answerByte : Bool → Outcome → ℕ
 answerByte counts o = o .kind * 64 + cond counts (o .looked) 0
 
+-- an answer byte's kind alone
+abbrev pub kindOnly : ℕ → ℕ
+kindOnly b = b / 64 * 64
+
 -- the words of a trace from index i on: the first refused word stops it, with number and index
 unfoldable pub runFrom : Bool → List ℕ → ℕ → List ℕ → List Frame → Account
 runFrom counts p i [] st = told 0 i

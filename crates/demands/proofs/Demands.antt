@@ -1,5 +1,5 @@
--- The three demands. Each theorem stands under the mission's sentence that it answers, and ends at a function of the C boundary: it speaks of document 01's definitions and of what that
--- function promises alone (specs/Exported.antt). Assumes nothing.
+-- The three demands. Each theorem stands under the mission's sentence that it answers, and ends at functions of the C boundary: it speaks of what they promise (specs/Exported.antt), of document 01's
+-- definitions, and of what each engine's crate says of its own state (`fits`: number 14; `Pictures`; `frames`). Assumes nothing.
 use mathlib.Core.Path.{_≡_, refl, sym, ap, _∙_}
 use mathlib.Core.Logic.{_≢_}
 use mathlib.Core.Bool.{Bool, true, false}
@@ -27,6 +27,7 @@ use Rattle.policy.proofs.RoundTrip as round
 use Rattle.walk.specs.State as walks
 use Rattle.walk.specs.Coherent as stacks
 use Rattle.walk.proofs.Agree.{agree}
+use Rattle.walk.proofs.Fits as walk-fits
 use Rattle.walk.proofs.Kept as walk-kept
 use Rattle.walk.proofs.Exists as walk-exists
 use Rattle.record.specs.Record as records
@@ -35,14 +36,14 @@ use Rattle.record.proofs.Served as record-served
 use Rattle.record.proofs.Stays as record-stays′
 use Rattle.passed.specs.State.{passedFits}
 use Rattle.passed.specs.Picture.{PassedOf}
-use Rattle.runner.proofs.Equal.{OneVerdict, three-runs}
+use Rattle.runner.specs.Equal.{OneVerdict}
+use Rattle.runner.proofs.Equal.{three-runs}
 use Rattle.derivation.specs.Promise.{checking}
 use Rattle.derivation.proofs.Demand.{unbarred}
-use Rattle.galmuvesh.specs.Boundary.{report, passedIn, Moves, Says, Asks}
+use Rattle.galmuvesh.specs.Boundary.{report, passedIn, returns, Moves, Asks}
 use Rattle.galmuvesh.proofs.Passing as passing
-use Rattle.galmuvesh.proofs.Passing.{returns}
 use Rattle.demands.specs.Exported.{PolicyWrote, WalkRan, RecordRan, PassedRan, WalkOperated, RecordOperated, DerivationWrote, DerivationChecked}
-use Rattle.demands.specs.Live.{WalkLived, RecordLived, PassedLived, Live, Answered, checkWord}
+use Rattle.demands.specs.Live.{outcome, asked, WalkLived, RecordLived, PassedLived, Live, Numbered, Answered, checkWord}
 use Rattle.demands.specs.Shown.{Settled}
 use Rattle.demands.proofs.Refused.{walk-leaves, record-leaves, word-leaves, run-bytes, nothing-written, policy-silent, derivation-silent}
 use Rattle.demands.proofs.Live as live
@@ -51,7 +52,7 @@ use Rattle.demands.proofs.Shown as showing
 
 -- 1. "Every policy, trace, state and derivation, damaged or invented, gets an answer, and every run ends."
 -- Each function of the C boundary is total: its promise has no premise, and the check proves that it returns. What it answers is a definition's value at those
--- very arguments: `readNumber`, `writing`, `run`, `guarded`, `refusalOf`, `checking`, `writing` of a derivation.
+-- very arguments: `readNumber`, `cutAt`, `writing`, `run`, `guarded`, `refusalOf`, `checking`, `writing` of a derivation.
 
 -- "A refused operation changes no state": neither a word of it nor the answer byte, whichever number refuses it.
 pub walk-refused : (p s : List ℕ) (w lent n byte : ℕ) (left : List ℕ) → WalkOperated p s w lent n byte left → n ≢ 0 → (left ≡ s) × (byte ≡ lent)
@@ -96,7 +97,7 @@ pub one-verdict : (p trace lent : List ℕ) (n m k figure figure′ figure″ : 
 one-verdict p trace lent n m k figure figure′ figure″ by-walk by-record by-passed =
     three-runs p trace lent (report n figure) (report m figure′) (report k figure″) by-walk by-record by-passed
 
--- Live: an operation on a state that number 14 lets through leaves one that it lets through. (Of a passed state, each that has a function: a return is the host's.)
+-- Live: an operation on a state that number 14 lets through leaves one that it lets through. (Of a passed state, each that has a function: a return is the host's. A lent record has 4096 words, as its type says.)
 pub walk-stays : (p s : List ℕ) (w lent n byte : ℕ) (left : List ℕ) → WalkOperated p s w lent n byte left → walks.fits p s ≡ true → walks.fits p left ≡ true
 walk-stays p s w lent n byte left h = walk-exists.operate-stays p s w n lent byte left h
 
@@ -110,42 +111,43 @@ passed-stays p s op n left r h f = passing.moved-stays p s op r n left h f
 -- refused by 13 or 14, and every answer is the definition's.
 module _ (p : List ℕ) (v : valid p ≡ true) where
   pub walk-live : (s : List ℕ) (st : List Frame) → WalkLived p s st → Live (stacks.Pictures p) (walks.fits p) p s st
-  walk-live = live.live p v (stacks.Pictures p) true (walks.fits p) (walks.stepIn p) 190 (walk-kept.fresh p) (λ s st h. h .fits)
+  walk-live = live.live p v (stacks.Pictures p) true (walks.fits p) (walks.stepIn p) 190 (walk-kept.fresh p) (walk-fits.pictured-fits p)
 
-  pub walk-answers : (s : List ℕ) (st : List Frame) → WalkLived p s st → (w lent n byte : ℕ) (left : List ℕ) → WalkOperated p s w lent n byte left → Answered true p st w lent n byte
-  walk-answers = live.answered p v (stacks.Pictures p) true (walks.fits p) (walks.stepIn p) 190 (walk-kept.fresh p) (λ s st h. h .fits)
+  pub walk-answers : (s : List ℕ) (st : List Frame) → WalkLived p s st → (w lent n byte : ℕ) (left : List ℕ) → WalkOperated p s w lent n byte left → Answered true (outcome p w st) lent n byte
+  walk-answers = live.answered p v (stacks.Pictures p) true (walks.fits p) (walks.stepIn p) 190 (walk-kept.fresh p) (walk-fits.pictured-fits p)
 
   pub record-live : (s : List ℕ) (st : List Frame) → RecordLived p s st → Live (chains.Pictures p) (records.recordFits p) p s st
   record-live = live.live p v (chains.Pictures p) false (records.recordFits p) (records.stepIn p) 4096 (record-served.fresh p) (record-stays′.fits p)
 
-  pub record-answers : (s : List ℕ) (st : List Frame) → RecordLived p s st → (w lent n byte : ℕ) (left : List ℕ) → RecordOperated p s w lent n byte left → Answered false p st w lent n byte
+  pub record-answers : (s : List ℕ) (st : List Frame) → RecordLived p s st → (w lent n byte : ℕ) (left : List ℕ) → RecordOperated p s w lent n byte left → Answered false (outcome p w st) lent n byte
   record-answers = live.answered p v (chains.Pictures p) false (records.recordFits p) (records.stepIn p) 4096 (record-served.fresh p) (record-stays′.fits p)
 
-  -- The passed state, over a host's own nesting.
+  -- The passed state, over a host's own nesting: it keeps a state for each frame below the newest, and the zeros, so that each return finds the caller's words. `op` is an operation that has
+  -- a function there: call, enable, disable, revert.
   module _ (s : List ℕ) (kept : List (List ℕ)) (st : List Frame) (l : PassedLived p (s ∷ kept) st) where
     pub passed-live : Live (λ words. PassedOf p (passedIn words)) (λ words. passedFits p (passedIn words)) p s st
     passed-live = let n = nested.nested p v (s ∷ kept) st l in record { let-through = n .known .0 .let-through; pictures = n .known .0 .pictures; reached = n .reached }
 
-    pub passed-moves : (op : Operation) (n : ℕ) (left : List ℕ) → Moves p s op n left → ((inside p op ≡ true → n ≡ step p op st .number) × (n ≢ 13) × (n ≢ 14))
-    passed-moves op n left h =
-        let few : n ≤ 8 = rw (h .number) (nested.refusal-number p (passedIn s) op v (passed-live .let-through)) in
-        (λ i. h .serves v (passed-live .let-through) i st (passed-live .pictures) .number, omega arith, omega arith)
+    pub passed-kept : length kept ≡ length st
+    passed-kept = omega (arith, nested.nested p v (s ∷ kept) st l .count)
 
-    pub passed-answers : (t n lent byte : ℕ) → Asks p s t n lent byte → ((t < targets p → Says n lent byte (step p (Check t) st)) × (n ≢ 13) × (n ≢ 14))
+    pub passed-moves : (op : Operation) (n : ℕ) (left : List ℕ) → Moves p s op n left → Numbered (asked p op st) n
+    passed-moves op n left h = nested.numbered p v s st (passed-live .let-through) op n (h .number) (λ i. h .serves v (passed-live .let-through) i st (passed-live .pictures) .number)
+
+    pub passed-answers : (t n lent byte : ℕ) → Asks p s t n lent byte → Answered false (asked p (Check t) st) lent n byte
     passed-answers t n lent byte h =
-        let few : n ≤ 8 = rw (h .number) (nested.refusal-number p (passedIn s) (Check t) v (passed-live .let-through)) in
-        (λ i. h .serves v (passed-live .let-through) (lt-ltb t (targets p) i) st (passed-live .pictures), omega arith, omega arith)
+        nested.answered p v s st (passed-live .let-through) t n lent byte (h .number) h (λ i. h .serves v (passed-live .let-through) i st (passed-live .pictures))
 
   -- Over one stack a word has one number by walk and record, and so has its operation on a passed state: the three accept together, and go on over one stack.
   pub one-number-live : (st : List Frame) (s q : List ℕ) → WalkLived p s st → RecordLived p q st → (w lent n byte lent′ m byte′ : ℕ) (left left′ : List ℕ)
       → WalkOperated p s w lent n byte left → RecordOperated p q w lent′ m byte′ left′ → n ≡ m
-  one-number-live st s q h k w lent n byte lent′ m byte′ left left′ a b = walk-answers s st h w lent n byte left a .number ∙ sym (record-answers q st k w lent′ m byte′ left′ b .number)
+  one-number-live st s q h k w lent n byte lent′ m byte′ left left′ a b = walk-answers s st h w lent n byte left a .numbered .number ∙ sym (record-answers q st k w lent′ m byte′ left′ b .numbered .number)
 
   pub passed-number-live : (st : List Frame) (s x : List ℕ) (kept : List (List ℕ)) → WalkLived p s st → PassedLived p (x ∷ kept) st → (w : ℕ) (op : Operation)
       → decoded (signers p) (targets p) w 0 ≡ Word (record { op = op; index = 0 }) → (lent n byte k : ℕ) (left left′ : List ℕ) → WalkOperated p s w lent n byte left → Moves p x op k left′ → k ≡ n
   passed-number-live st s x kept h l w op d lent n byte k left left′ a b =
       let own : inside p op ≡ true = rw d at (decoded-fair p w 0) in
-      passed-moves x kept st l op k left′ b .0 own ∙ sym (walk-answers s st h w lent n byte left a .number ∙ ap (λ (x : Decoded). served p x st .number) d)
+      passed-moves x kept st l op k left′ b .number ∙ rw own (sym (walk-answers s st h w lent n byte left a .numbered .number ∙ ap (λ (x : Decoded). served p x st .number) d))
 
   -- So the three give one verdict live, the belief sets', and the walk the definition's count with it.
   module _ (f : Frame) (r : List Frame) (t : ℕ) (l : t < targets p) where
@@ -163,20 +165,23 @@ module _ (p : List ℕ) (v : valid p ≡ true) where
 
     pub passed-verdict : (s : List ℕ) (kept : List (List ℕ)) → PassedLived p (s ∷ kept) (f ∷ r) → (lent n byte : ℕ) → Asks p s t n lent byte → (n ≡ 0) × (byte ≡ verdictByte verdict 0)
     unfolding step
-    passed-verdict s kept h lent n byte o = let a = passed-answers s kept (f ∷ r) h t n lent byte o .0 l in (a .number, a .answer)
+    passed-verdict s kept h lent n byte o =
+        let a = rw (lt-ltb t (targets p) l) at (passed-answers s kept (f ∷ r) h t n lent byte o) in
+        let accepted : n ≡ 0 = a .numbered .number in
+        (accepted, a .answer ∙ rw accepted)
 
     pub one-verdict-live : (s q x : List ℕ) (kept : List (List ℕ)) → WalkLived p s (f ∷ r) → RecordLived p q (f ∷ r) → PassedLived p (x ∷ kept) (f ∷ r)
         → (lent n m k by-walk by-record by-passed : ℕ) (left left′ : List ℕ)
         → WalkOperated p s (checkWord t) lent n by-walk left → RecordOperated p q (checkWord t) lent m by-record left′ → Asks p x t k lent by-passed
         → (n ≡ 0) × (m ≡ 0) × (k ≡ 0) × (by-walk ≡ verdictByte verdict count) × (by-record ≡ verdictByte verdict 0) × (by-passed ≡ verdictByte verdict 0)
     one-verdict-live s q x kept h h′ h″ lent n m k by-walk by-record by-passed left left′ o o′ o″ =
-        let w = walk-verdict s h lent n by-walk left o in
-        let r = record-verdict q h′ lent m by-record left′ o′ in
-        let p = passed-verdict x kept h″ lent k by-passed o″ in
-        (w .0, r .0, p .0, w .1, r .1, p .1)
+        let walked = walk-verdict s h lent n by-walk left o in
+        let recorded = record-verdict q h′ lent m by-record left′ o′ in
+        let passed = passed-verdict x kept h″ lent k by-passed o″ in
+        (walked .0, recorded .0, passed .0, walked .1, recorded .1, passed .1)
 
 -- "A policy has exactly one byte form, and comes back the same when written and read": bytes that are read as one value are the same bytes; what is written for a value is read as that
--- value, and bytes that are read are written again for the value that they gave.
+-- value, and bytes that are read are written again for the value that they gave. (A lent value has 35 words, as its type says.)
 pub one-form : (a b lent lent′ value : List ℕ) → Bytes a → Bytes b → PolicyRead a lent 0 value → PolicyRead b lent′ 0 value → a ≡ b
 one-form a b lent lent′ value h k x y =
     round.one-form a b h k (sym (x .number)) (sym (y .number)) (sym (round.value-of a lent value x) ∙ round.value-of b lent′ value y)

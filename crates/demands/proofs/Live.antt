@@ -2,6 +2,7 @@
 use mathlib.Core.Path.{_≡_, sym, ap, _∙_}
 use mathlib.Core.Bool.{Bool, true, false, cond}
 use mathlib.Core.List.{List, [], _∷_, map}
+use mathlib.Core.Logic.{⊎-elim}
 use Prim.Native.Nat.{ℕ, _≤_, _<_}
 use native.Mathlib.Omega.{arith}
 use lib.Dec.{eqb, ltb}
@@ -12,10 +13,11 @@ use Rattle.beliefs.specs.declared.Operation.the-variants.{Call, Return, Enable,
 use Rattle.beliefs.specs.declared.Decoded.{Decoded}
 use Rattle.beliefs.specs.declared.Decoded.the-variants.{Word, Refused}
 use Rattle.beliefs.specs.Policy.{signers, targets, valid}
-use Rattle.beliefs.specs.Stack.{Frame, called, granted, marked, walk}
+use Rattle.beliefs.specs.Stack.{Frame, granted, marked, walk}
 use Rattle.beliefs.specs.Words.{wordOperation, wordSigner, wordTarget, wordSpare, operationOf, strayIn, outsideOf, decoded}
-use Rattle.beliefs.specs.Trace.{Outcome, refuse, done, step, served}
+use Rattle.beliefs.specs.Trace.{Outcome, step, served}
 use Rattle.beliefs.specs.Engine.{Moved, verdictByte, Answers, Operate}
+use Rattle.beliefs.proofs.Engine.{call-step}
 use Rattle.beliefs.proofs.Refusals.{at-most}
 use Rattle.beliefs.proofs.Words.{Fair, decoded-fair}
 use Rattle.demands.specs.Live.{Reached, fresh, moved, outcome, Lived, zeros, word, Live, Answered, checkWord}
@@ -23,11 +25,7 @@ use Rattle.demands.specs.Live.{Reached, fresh, moved, outcome, Lived, ze
 -- a word refuses by 8 at most
 step-number : (p : List ℕ) (op : Operation) (st : List Frame) → step p op st .number ≤ 8
 unfolding step
-step-number p (Call g) st = go (ltb (length st) 63)
-  where
-    go : (e : Bool) → cond e (done (called p g st ∷ st)) (refuse 8 st) .number ≤ 8
-    go true = omega arith
-    go false = omega arith
+step-number p (Call g) st = ⊎-elim (λ e. rw e (omega arith)) (λ e. rw e (omega arith)) (call-step p g st)
 step-number p Return [] = omega arith
 step-number p Return (f ∷ r) = omega arith
 step-number p (Enable t) [] = omega arith
@@ -66,12 +64,12 @@ check-decoded p t l few =
     rw (operation, signer, target, spare, lt-ltb t (targets p) l)
 
 -- and answered with the verdict of the belief sets
-pub check-answered : (counts : Bool) (p : List ℕ) (f : Frame) (r : List Frame) (t : ℕ) → t < targets p → targets p ≤ 64 → (lent n byte : ℕ) → Answered counts p (f ∷ r) (checkWord t) lent n byte
+pub check-answered : (counts : Bool) (p : List ℕ) (f : Frame) (r : List Frame) (t : ℕ) → t < targets p → targets p ≤ 64 → (lent n byte : ℕ) → Answered counts (outcome p (checkWord t) (f ∷ r)) lent n byte
     → (n ≡ 0) × (byte ≡ verdictByte (granted p t (f ∷ r)) (cond counts (walk p t (map marked (f ∷ r)) .looked) 0))
 unfolding step
 check-answered counts p f r t l few lent n byte a =
     let same : outcome p (checkWord t) (f ∷ r) ≡ step p (Check t) (f ∷ r) = ap (λ (d : Decoded). served p d (f ∷ r)) (check-decoded p t l few) in
-    let accepted : n ≡ 0 = a .number ∙ ap (λ (o : Outcome). o .number) same in
+    let accepted : n ≡ 0 = a .numbered .number ∙ ap (λ (o : Outcome). o .number) same in
     (accepted, a .answer ∙ rw (accepted, same))
 
 module _ (p : List ℕ) (v : valid p ≡ true) where
@@ -97,9 +95,9 @@ module _ (p : List ℕ) (v : valid p ≡ true) where
           reached = reaches st (decoded (signers p) (targets p) w 0) (decoded-fair p w 0) (sym (now .number)) (was .reached);
         }
 
-    pub answered : (s : List ℕ) (st : List Frame) → Lived p size Operated s st → (w lent n byte : ℕ) (left : List ℕ) → Operated s w lent n byte left → Answered counts p st w lent n byte
+    pub answered : (s : List ℕ) (st : List Frame) → Lived p size Operated s st → (w lent n byte : ℕ) (left : List ℕ) → Operated s w lent n byte left → Answered counts (outcome p w st) lent n byte
     answered s st l w lent n byte left h =
         let is : Live Pictures fits p s st = live s st l in
         let now : Answers Pictures counts n lent byte left (outcome p w st) = h .answers v (is .let-through) st (is .pictures) in
         let few : n ≤ 8 = rw (now .number) (outcome-number p w st) in
-        record { number = now .number; answer = rw (now .number) (now .answer); never-13 = omega arith; never-14 = omega arith }
+        record { numbered = record { number = now .number; never-13 = omega arith; never-14 = omega arith }; answer = rw (now .number) (now .answer) }

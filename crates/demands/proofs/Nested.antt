@@ -2,17 +2,19 @@
 -- each answer is the definition's. Assumes nothing.
 use mathlib.Core.Path.{_≡_, refl, sym, ap, _∙_}
 use mathlib.Core.Bool.{Bool, true, false, cond}
+use mathlib.Core.Logic.{_≢_}
 use mathlib.Core.List.{List, [], _∷_}
 use Prim.Native.Nat.{ℕ, suc, _≤_}
 use native.Mathlib.Omega.{arith}
 use lib.Dec.{eqb, ltb}
 use lib.ListN.{length}
+use borrow.Author.Tests.{ne-eqb}
 use Rattle.bits.proofs.Laws.{never}
 use Rattle.beliefs.specs.declared.Operation.{Operation}
 use Rattle.beliefs.specs.declared.Operation.the-variants.{Call, Return, Enable, Disable, Revert, Check}
 use Rattle.beliefs.specs.Policy.{signers, targets, valid}
 use Rattle.beliefs.specs.Stack.{Frame, called}
-use Rattle.beliefs.specs.Trace.{refuse, done, step}
+use Rattle.beliefs.specs.Trace.{refuse, done, answerByte, step}
 use Rattle.beliefs.specs.Engine.{inside}
 use Rattle.beliefs.proofs.Refusals.{at-most}
 use Rattle.passed.specs.declared.Passed.{Passed}
@@ -20,9 +22,9 @@ use Rattle.passed.specs.State.{passedFits, outsideOf, barredOf, refusalOf}
 use Rattle.passed.specs.Picture.{PassedOf, below}
 use Rattle.passed.proofs.Kept.{fresh-fits, through, not-outside}
 use Rattle.passed.proofs.Serves.{fresh-pictures}
-use Rattle.galmuvesh.specs.Boundary.{passedIn, Follows, Moves}
-use Rattle.galmuvesh.proofs.Passing.{returns, moved-fits}
-use Rattle.demands.specs.Live.{Reached, fresh, moved, PassedLived, zeros, call, enable, disable, revert, back}
+use Rattle.galmuvesh.specs.Boundary.{passedIn, returns, Follows, Moves, Says, Asks}
+use Rattle.galmuvesh.proofs.Passing.{moved-fits}
+use Rattle.demands.specs.Live.{Reached, fresh, moved, asked, PassedLived, zeros, call, enable, disable, revert, back, Numbered, Answered}
 
 -- one state's words, and the frames that they picture
 pub record Known (p s : List ℕ) (st : List Frame) : Type 0 where
@@ -143,3 +145,26 @@ barred-number depth (Check t) = at-most (eqb depth 0) (omega arith) (omega arith
 pub refusal-number : (p : List ℕ) (s : Passed) (op : Operation) → valid p ≡ true → passedFits p s ≡ true → refusalOf p s op ≤ 8
 unfolding refusalOf
 refusal-number p s op v f = rw (v, f) (at-most (eqb (outsideOf p op) 0) (barred-number (s .depth) op) (outside-number p op))
+
+-- the number is the definition's: within the policy the step's, outside it 5 or 6
+module _ (p : List ℕ) (v : valid p ≡ true) (s : List ℕ) (st : List Frame) (f : passedFits p (passedIn s) ≡ true) where
+  outside : (op : Operation) → inside p op ≡ false → refusalOf p (passedIn s) op ≡ outsideOf p op
+  unfolding refusalOf
+  outside op i = rw (v, f, ne-eqb (outsideOf p op) 0 (λ z. let no : true ≡ false = sym (not-outside p op z) ∙ i in never no))
+
+  pub numbered : (op : Operation) (n : ℕ) → n ≡ refusalOf p (passedIn s) op → (inside p op ≡ true → n ≡ step p op st .number) → Numbered (asked p op st) n
+  numbered op n e within =
+      let few : n ≤ 8 = rw e (refusal-number p (passedIn s) op v f) in
+      record { number = go (inside p op) refl; never-13 = omega arith; never-14 = omega arith }
+    where
+      go : (b : Bool) → inside p op ≡ b → n ≡ cond b (step p op st) (refuse (outsideOf p op) st) .number
+      go true i = within i
+      go false i = e ∙ outside op i
+
+  pub answered : (t n lent byte : ℕ) → n ≡ refusalOf p (passedIn s) (Check t) → Asks p s t n lent byte → (inside p (Check t) ≡ true → Says n lent byte (step p (Check t) st))
+      → Answered false (asked p (Check t) st) lent n byte
+  answered t n lent byte e h within = record { numbered = numbered (Check t) n e (λ i. within i .number); answer = go (inside p (Check t)) refl }
+    where
+      go : (b : Bool) → inside p (Check t) ≡ b → byte ≡ cond (eqb n 0) (answerByte false (cond b (step p (Check t) st) (refuse (outsideOf p (Check t)) st))) lent
+      go true i = let w = within i in rw (w .number) (w .answer)
+      go false i = let nz : n ≢ 0 = λ z. (let no : true ≡ false = sym (not-outside p (Check t) (sym (outside (Check t) i) ∙ sym e ∙ z)) ∙ i in never no) in h .answer ∙ rw (← e, ne-eqb n 0 nz)

@@ -13,8 +13,9 @@ use Rattle.beliefs.specs.Numbers.{badPolicy, badState}
 use Rattle.beliefs.specs.Policy.{signers, targets}
 use Rattle.beliefs.specs.Stack.{Frame}
 use Rattle.beliefs.specs.Words.{decoded}
-use Rattle.beliefs.specs.Trace.{Outcome, answerByte, step, served}
+use Rattle.beliefs.specs.Trace.{Outcome, refuse, answerByte, step, served}
 use Rattle.beliefs.specs.Engine.{inside}
+use Rattle.passed.specs.State.{outsideOf}
 use Rattle.galmuvesh.specs.Boundary.{Moves}
 use Rattle.demands.specs.Exported.{WalkOperated, RecordOperated}
 
@@ -60,12 +61,20 @@ pub data PassedLived (p : List ℕ) : List (List ℕ) → List Frame → Type 0 
   -- a return is the host's own: it goes on with the caller's words
   back : {s caller : List ℕ} {kept : List (List ℕ)} {st : List Frame} → PassedLived p (s ∷ caller ∷ kept) st → PassedLived p (caller ∷ kept) (step p Return st .stack)
 
--- a word's answer on a stack: the definition's number, neither 13 nor 14, and where that is 0 the definition's answer byte
-pub record Answered (counts : Bool) (p : List ℕ) (st : List Frame) (w lent n byte : ℕ) : Type 0 where
-  pub number : n ≡ outcome p w st .number
-  pub answer : byte ≡ cond (eqb n 0) (answerByte counts (outcome p w st)) lent
+-- and of an operation of any signer or target, as the passed state's functions take it: 5 or 6 where it is none of the policy's
+abbrev pub asked : List ℕ → Operation → List Frame → Outcome
+asked p op st = cond (inside p op) (step p op st) (refuse (outsideOf p op) st)
+
+-- the definition's number, which is neither 13 nor 14
+pub record Numbered (o : Outcome) (n : ℕ) : Type 0 where
+  pub number : n ≡ o .number
   pub never-13 : n ≢ badPolicy
   pub never-14 : n ≢ badState
+
+-- and where that is 0 the definition's answer byte
+pub record Answered (counts : Bool) (o : Outcome) (lent n byte : ℕ) : Type 0 where
+  pub numbered : Numbered o n
+  pub answer : byte ≡ cond (eqb n 0) (answerByte counts o) lent
 
 -- the word of a check
 abbrev pub checkWord : ℕ → ℕ

@@ -1,7 +1,7 @@
 -- An operation on the four words of a passed state serves the belief sets: where it leads pictures the stack after it, and passes number 14; a refusal
 -- leaves both as they were. Assumes nothing.
 use mathlib.Core.Path.{_≡_, refl, sym, ap, _∙_}
-use mathlib.Core.Logic.{_≢_}
+use mathlib.Core.Logic.{_≢_, ⊎-elim}
 use mathlib.Core.Bool.{Bool, true, false, cond}
 use mathlib.Core.List.{List, [], _∷_}
 use Prim.Native.Nat.{ℕ}
@@ -13,24 +13,20 @@ use Rattle.beliefs.specs.declared.Operation.{Operation}
 use Rattle.beliefs.specs.declared.Operation.the-variants.{Call, Return, Enable, Disable, Revert, Check}
 use Rattle.beliefs.specs.Policy.{valid}
 use Rattle.beliefs.specs.Stack.{Frame, called}
-use Rattle.beliefs.specs.Trace.{refuse, done, step}
+use Rattle.beliefs.specs.Trace.{Outcome, refuse, step}
+use Rattle.beliefs.proofs.Engine.{call-step}
 use Rattle.beliefs.specs.Engine.{inside, verdictByte}
 use Rattle.passed.specs.declared.Next.the-variants.{Refused}
 use Rattle.passed.specs.State.{checkOf, unless, ledTo, passedFits, refusalOf, operateOf}
 use Rattle.passed.proofs.Kept.{Fit, operate-fits}
 use Rattle.passed.specs.Picture.{PassedOf, Goes}
 use Rattle.passed.proofs.Serves.{operates}
-use Rattle.galmuvesh.specs.Boundary.{passedIn, wordsOf, after, Follows, Moves, Says, Asks}
+use Rattle.galmuvesh.specs.Boundary.{passedIn, wordsOf, after, returns, Follows, Moves, Says, Asks}
 
 -- a refused operation is the definition's refusal, whichever it is
 step-refuses : (p : List ℕ) (op : Operation) (st : List Frame) → step p op st .number ≢ 0 → step p op st ≡ refuse (step p op st .number) st
 unfolding step
-step-refuses p (Call g) st nz = go (ltb (length st) 63) nz
-  where
-    go : (e : Bool) → cond e (done (called p g st ∷ st)) (refuse 8 st) .number ≢ 0
-        → cond e (done (called p g st ∷ st)) (refuse 8 st) ≡ refuse (cond e (done (called p g st ∷ st)) (refuse 8 st) .number) st
-    go true nz = absurd (nz refl)
-    go false nz = refl
+step-refuses p (Call g) st nz = ⊎-elim (λ e. absurd (nz (ap (λ (o : Outcome). o .number) e))) (λ e. rw e) (call-step p g st)
 step-refuses p Return [] nz = refl
 step-refuses p Return (f ∷ r) nz = absurd (nz refl)
 step-refuses p (Enable t) [] nz = refl
@@ -43,14 +39,6 @@ step-refuses p (Check t) [] nz = refl
 step-refuses p (Check t) (f ∷ r) nz = absurd (nz refl)
 
 -- an operation of the newest frame, on the four words: refused, it leaves words and stack; else the words after it picture the stack after it
-abbrev pub returns : Operation → Bool
-returns (Call g) = false
-returns Return = true
-returns (Enable t) = false
-returns (Disable t) = false
-returns (Revert t) = false
-returns (Check t) = false
-
 led : (p s : List ℕ) (op : Operation) (st : List Frame) → returns op ≡ false → Goes p st (step p op st) (ledTo p (passedIn s) op)
     → Follows p 0 (wordsOf (after p (passedIn s) op)) (step p op st)
 unfolding ledTo

@@ -1,6 +1,6 @@
 -- What the C functions promise where the crates below say it in other terms: a report comes in two places, a passed state is four words.
 use mathlib.Core.Path.{_≡_}
-use mathlib.Core.Bool.{true, false, cond}
+use mathlib.Core.Bool.{Bool, true, false, cond}
 use mathlib.Core.List.{List, [], _∷_}
 use Prim.Native.Nat.{ℕ}
 use lib.Dec.{eqb}
@@ -35,6 +35,14 @@ after p s (Enable t) = enableOf s t
 after p s (Disable t) = disableOf s t
 after p s (Revert t) = revertOf s t
 after p s (Check t) = s
+
+abbrev pub returns : Operation → Bool
+returns (Call g) = false
+returns Return = true
+returns (Enable t) = false
+returns (Disable t) = false
+returns (Revert t) = false
+returns (Check t) = false
 
 -- call, enable, disable and revert: exactly, on the four words; and against the belief sets, on each stack that they picture
 pub record Follows (p : List ℕ) (n : ℕ) (left : List ℕ) (o : Outcome) : Type 0 where

@@ -1,22 +1,14 @@
 -- Stack walk, belief record and passed state give one verdict on every check of every trace. Assumes nothing.
 use mathlib.Core.Path.{_≡_, sym, _∙_}
 use mathlib.Core.Bool.{true, false}
-use mathlib.Core.List.{List, map}
+use mathlib.Core.List.{List}
 use Prim.Native.Nat.{ℕ}
 use lib.ListN.{length}
-use lib.Seq.{sets}
 use Rattle.beliefs.specs.declared.Report.{Report}
 use Rattle.beliefs.specs.Account.{Reports}
 use Rattle.beliefs.specs.Trace.{run}
-use Rattle.beliefs.proofs.Counts.{kindOnly, uncounted, run-uncounted}
-
--- the walk writes the definition's answer bytes, the other two the kind of each; all three report the same
-pub record OneVerdict (p trace lent : List ℕ) (w r q : Report) (by-walk by-record by-passed : List ℕ) : Type 0 where
-  pub walked : by-walk ≡ sets lent 0 (run true p trace (length lent) .written)
-  pub recorded : by-record ≡ sets lent 0 (map kindOnly (run true p trace (length lent) .written))
-  pub passed : by-passed ≡ sets lent 0 (map kindOnly (run true p trace (length lent) .written))
-  pub record-report : r ≡ w
-  pub passed-report : q ≡ w
+use Rattle.beliefs.proofs.Counts.{uncounted, run-uncounted}
+use Rattle.runner.specs.Equal.{OneVerdict}
 
 -- from the three promises alone, for every policy, trace and lent buffer
 pub three-runs : (p trace lent : List ℕ) (w r q : Report) (by-walk by-record by-passed : List ℕ)

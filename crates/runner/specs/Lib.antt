@@ -1,2 +1,3 @@
 pub mod Progress
 pub mod Nested
+pub mod Equal

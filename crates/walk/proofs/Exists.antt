@@ -22,7 +22,7 @@ use Rattle.beliefs.proofs.Chosen.{chosen, chosen-any}
 use Rattle.beliefs.proofs.Engine as engine
 use Rattle.walk.specs.State.{depth, frameAt, framesAt, fits, stepIn}
 use Rattle.walk.specs.Coherent.{Sound, Coherent, Pictures}
-use Rattle.walk.proofs.Fits.{Fitting, fitting}
+use Rattle.walk.proofs.Fits.{Fitting, fitting, pictured-fits}
 
 -- what a callee is handed
 handed : List Frame → List Belief
@@ -91,10 +91,11 @@ pictured p s v h =
         deep = sym (stack-length s (getD s 0 0));
         same = ap (λ (n : ℕ). framesAt s n) d ∙ stack .0;
         coherent = stack .1;
-        fits = h;
+        used = λ j l. f .used j (omega (arith, stack-length s (getD s 0 0)));
+        above = λ j l m. f .free j (omega (arith, stack-length s (getD s 0 0))) m;
       },
     )
 
 pub operate-stays : (p s : List ℕ) (word n lent byte : ℕ) (left : List ℕ) → Operate (Pictures p) true (fits p s) (stepIn p s) p s word n lent byte left → fits p s ≡ true → fits p left ≡ true
 operate-stays p s word n lent byte left h f =
-    engine.operate-stays (Pictures p) true (fits p) (λ s st k. k .fits) (stepIn p s) p s (λ v. pictured p s v f) word n lent byte left h f
+    engine.operate-stays (Pictures p) true (fits p) (pictured-fits p) (stepIn p s) p s (λ v. pictured p s v f) word n lent byte left h f

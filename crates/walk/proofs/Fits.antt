@@ -12,13 +12,13 @@ use lib.ListN.{length, getD, take, drop}
 use borrow.Author.Tests.{lt-ltb, le-ltb, le-leb, ltb-true, leb-true, eqb-true, eqb-false}
 use Rattle.bits.specs.Bit.{below, allBelow}
 use Rattle.bits.proofs.Laws.{below-none, below-nothing, below-or}
-use Rattle.beliefs.specs.declared.Marked.{Marked}
 use Rattle.beliefs.specs.Lists.{each}
 use Rattle.beliefs.specs.Policy.{signers, targets}
-use Rattle.beliefs.specs.Stack.{nobody}
+use Rattle.beliefs.specs.Stack.{Frame, nobody}
 use Rattle.beliefs.proofs.Lists.{each-ext, each-at, each-of, part-below}
 use Rattle.beliefs.proofs.Policy.{both}
 use Rattle.walk.specs.State.{depth, frameAt, inUse, unused, fits}
+use Rattle.walk.specs.Coherent.{Used, Pictures}
 
 -- frames in use, one more at each turn, with the marks of those before it together
 module _ (p s : List ℕ) where
@@ -69,12 +69,6 @@ room-above s d long few =
     three k =
         ap₂ (λ (x y : Bool). x && y) (word _ (3 * (d + k) + 1) (omega arith))
         (ap₂ (λ (x y : Bool). x && y) (word _ (3 * (d + k) + 2) (omega arith)) (word _ (3 * (d + k) + 3) (omega arith)))
-
--- a frame of a signer below S, with marks for targets below N only
-pub record Used (p : List ℕ) (m : Marked) : Type 0 where
-  pub signer : m .signer < signers p
-  pub enabled : m .enabled < 2 ^ targets p
-  pub disabled : m .disabled < 2 ^ targets p
 
 -- what number 14 lets through, frame by frame
 pub record Fitting (p s : List ℕ) : Type 0 where
@@ -129,23 +123,24 @@ module _ (p s : List ℕ) where
     each-of (λ k. unused s (depth s + k)) (63 - depth s) (λ k l. is-free (depth s + k) (h .free (depth s + k) (omega arith) (omega arith))),
   )
 
--- another frame above k others and another depth, n: what is in use or free is so still, but for that frame
-pub fits-after : (p s s′ : List ℕ) (k n : ℕ) → fits p s ≡ true → getD s′ 0 0 ≡ n → n ≤ 63
-    → ((j : ℕ) → j ≢ k → (frameAt s′ j ≡ frameAt s j) × ((j < n → j < depth s) × (n ≤ j → depth s ≤ j)))
-    → (k < n → Used p (frameAt s′ k)) → (n ≤ k → frameAt s′ k ≡ nobody) → fits p s′ ≡ true
-fits-after p s s′ k n h deep few others used free =
-    let d : depth s′ ≡ n = omega arith in
-    let was = fitting p s h in
-    fitted p s′ (record {
-      few = omega arith;
-      used = λ j l. go-used j (omega arith) (eqb j k) refl;
-      free = λ j l m. go-free j (omega arith) m (eqb j k) refl;
-    })
-  where
-    go-used : (j : ℕ) → j < n → (e : Bool) → eqb j k ≡ e → Used p (frameAt s′ j)
-    go-used j l true q = let same : j ≡ k = eqb-true j k q in rw same (used (omega arith))
-    go-used j l false q = let o = others j (eqb-false j k q) in rw (o .0) (fitting p s h .used j (o .1 .0 l))
+-- so a state that pictures a stack is let through
+pub pictured-fits : (p s : List ℕ) (st : List Frame) → Pictures p s st → fits p s ≡ true
+pictured-fits p s st h =
+    let deep : depth s ≡ length st = omega (arith, h .room, h .deep) in
+    fitted p s (record { few = omega (arith, h .room, h .deep); used = λ j l. h .used j (omega arith); free = λ j l m. h .above j (omega arith) m })
 
-    go-free : (j : ℕ) → n ≤ j → j < 63 → (e : Bool) → eqb j k ≡ e → frameAt s′ j ≡ nobody
-    go-free j l m true q = let same : j ≡ k = eqb-true j k q in rw same (free (omega arith))
-    go-free j l m false q = let o = others j (eqb-false j k q) in o .0 ∙ fitting p s h .free j (o .1 .1 l) m
+-- another frame above k others, and another depth: what is in use or free is so still, but for that frame
+module _ (p s s′ : List ℕ) (k d n : ℕ) (others : (j : ℕ) → j ≢ k → (frameAt s′ j ≡ frameAt s j) × ((j < n → j < d) × (n ≤ j → d ≤ j))) where
+  pub used-after : ((j : ℕ) → j < d → Used p (frameAt s j)) → (k < n → Used p (frameAt s′ k)) → (j : ℕ) → j < n → Used p (frameAt s′ j)
+  used-after was here j l = go (eqb j k) refl
+    where
+      go : (e : Bool) → eqb j k ≡ e → Used p (frameAt s′ j)
+      go true q = let same : j ≡ k = eqb-true j k q in rw same (here (omega arith))
+      go false q = let o = others j (eqb-false j k q) in rw (o .0) (was j (o .1 .0 l))
+
+  pub free-after : ((j : ℕ) → d ≤ j → j < 63 → frameAt s j ≡ nobody) → (n ≤ k → frameAt s′ k ≡ nobody) → (j : ℕ) → n ≤ j → j < 63 → frameAt s′ j ≡ nobody
+  free-after was here j l m = go (eqb j k) refl
+    where
+      go : (e : Bool) → eqb j k ≡ e → frameAt s′ j ≡ nobody
+      go true q = let same : j ≡ k = eqb-true j k q in rw same (here (omega arith))
+      go false q = let o = others j (eqb-false j k q) in o .0 ∙ was j (o .1 .1 l) m

@@ -3,7 +3,7 @@ use mathlib.Core.Path.{_≡_, refl, sym, ap, ap₂, _∙_}
 use mathlib.Core.Bool.{true}
 use mathlib.Core.List.{List, [], _∷_, map}
 use mathlib.Core.Logic.{_≢_}
-use Prim.Native.Nat.{ℕ, suc, _+_, _-_, _≤_, _<_}
+use Prim.Native.Nat.{ℕ, suc, _+_, _-_, _*_, _≤_, _<_}
 use native.Mathlib.Omega.{arith}
 use lib.ListN.{getD, set, length, replicate}
 use lib.Pow.{pow-pos}
@@ -20,19 +20,26 @@ use Rattle.beliefs.specs.Trace.{step}
 use Rattle.beliefs.specs.Engine.{inside, Gives, Serve}
 use Rattle.beliefs.proofs.Engine.{Mirrors, call-mirrors, return-mirrors, newest-mirrors, check-mirrors, serves-by}
 use Rattle.beliefs.specs.Policy.{signers, targets}
-use Rattle.beliefs.specs.Lists.{each}
 use Rattle.beliefs.proofs.Granted.{start-lt}
+use Rattle.beliefs.proofs.Lists.{zeros}
 use Rattle.beliefs.proofs.Policy.{Ranges, ranges, in-word}
-use Rattle.walk.specs.State.{depth, frameAt, framesAt, frames, unused, fits, put, remarked, markIn, newFrame, callIn, returnIn, checkIn, stepIn}
-use Rattle.walk.specs.Coherent.{Sound, Pictures}
+use Rattle.walk.specs.State.{depth, frameAt, framesAt, frames, put, remarked, markIn, newFrame, callIn, returnIn, checkIn, stepIn}
+use Rattle.walk.specs.Coherent.{Sound, Used, Pictures}
 use Rattle.walk.proofs.Frames.{length-put, put-frame, put-others, put-depth, set-depth, framesAt-same}
-use Rattle.walk.proofs.Fits.{Used, fitting, fits-after}
+use Rattle.walk.proofs.Fits.{used-after, free-after}
 use Rattle.walk.proofs.Agree.{agree, enable-sound, disable-sound, revert-sound, call-sound}
 
 -- a fresh state, all zeros, pictures the stack with no frame
 pub fresh : (p : List ℕ) → Pictures p (replicate 190 0) []
-unfolding fits each unused frameAt
-fresh p = record { room = omega arith; deep = refl; same = refl; coherent = tt; fits = refl }
+unfolding frameAt
+fresh p = record {
+  room = omega arith;
+  deep = refl;
+  same = refl;
+  coherent = tt;
+  used = λ j l. absurd (omega arith);
+  above = λ j l m i. record { signer = zeros 190 (3 * j + 1) i; enabled = zeros 190 (3 * j + 2) i; disabled = zeros 190 (3 * j + 3) i };
+}
 
 -- the depth of a state that pictures a stack
 pub high : (p s : List ℕ) (st : List Frame) → Pictures p s st → depth s ≡ length st
@@ -74,26 +81,25 @@ module _ (p s : List ℕ) (long : length s ≡ 190) (ok : Ranges p) where
   new-used g l [] = record { signer = l; enabled = start-lt p (ok .targets-most); disabled = pow-pos (targets p) }
   new-used g l (f ∷ r) = record { signer = l; enabled = pow-pos (targets p); disabled = pow-pos (targets p) }
 
-  call-kept : (g : ℕ) → g < signers p → (st : List Frame) → Pictures p s st → length st < 63
-      → Pictures p (set (put s (depth s) (newFrame p g (depth s))) 0 (depth s + 1)) (called p g st ∷ st)
-  call-kept g known st h l =
-      let k : ℕ = length st in
-      let m : Marked = newFrame p g k in
-      let s′ : List ℕ = set (put s k m) 0 (k + 1) in
-      let up : k + 1 ≡ suc k = omega arith in
-      let d : depth s ≡ k = high p s st h in
-      let deep′ : getD s′ 0 0 ≡ suc k = said-depth s long k m (k + 1) ∙ up in
+  -- the new frame m stands above k others, and the depth is n
+  call-kept : (g k n : ℕ) (m : Marked) → g < signers p → (st : List Frame) → k ≡ length st → n ≡ suc (length st) → m ≡ marked (called p g st) → Pictures p s st → length st < 63
+      → Pictures p (set (put s k m) 0 n) (called p g st ∷ st)
+  call-kept g k n m known st e e′ is h l =
+      let s′ : List ℕ = set (put s k m) 0 n in
+      let d : depth s ≡ length st = high p s st h in
+      let deep′ : getD s′ 0 0 ≡ suc (length st) = said-depth s long k m n ∙ e′ in
       let d′ : depth s′ ≡ suc k = omega arith in
-      let top′ : frameAt s′ k ≡ marked (called p g st) = said-frame s long k m (k + 1) l ∙ new-frame g st in
-      let below′ : framesAt s′ k ≡ map marked st = said-below s long k m (k + 1) ∙ ap (λ (n : ℕ). framesAt s n) (sym d) ∙ h .same in
-      rw d (record {
+      let top′ : frameAt s′ k ≡ marked (called p g st) = said-frame s long k m n (omega arith) ∙ is in
+      let others : (j : ℕ) → j ≢ k → (frameAt s′ j ≡ frameAt s j) × ((j < suc (length st) → j < length st) × (suc (length st) ≤ j → length st ≤ j)) = λ j o. (said-others s long k m n j o, (λ low. omega arith, λ far. omega arith)) in
+      let below′ : framesAt s′ k ≡ map marked st = said-below s long k m n ∙ ap (λ (n : ℕ). framesAt s n) (e ∙ sym d) ∙ h .same in
+      record {
         room = l;
         deep = deep′;
         same = ap (λ (n : ℕ). framesAt s′ n) d′ ∙ ap₂ (λ (x : Marked) (xs : List Marked). x ∷ xs) top′ below′;
         coherent = (call-sound p g st (ok .targets-most), h .coherent);
-        fits = fits-after p s s′ k (suc k) (h .fits) deep′ l (λ j o. (said-others s long k m (k + 1) j o, (λ low. omega arith, λ far. omega arith)))
-            (λ _. rw top′ (new-used g known st)) (λ past. absurd (omega arith));
-      })
+        used = used-after p s s′ k (length st) (suc (length st)) others (h .used) (λ _. rw top′ (new-used g known st));
+        above = free-after p s s′ k (length st) (suc (length st)) others (h .above) (λ past. absurd (omega arith));
+      }
 
   -- return: zeros in the newest frame's place, above k others, and the depth n
   return-kept : (k n : ℕ) (f : Frame) (r : List Frame) → k ≡ length r → n ≡ length r → Pictures p s (f ∷ r) → Pictures p (set (put s k nobody) 0 n) r
@@ -103,13 +109,14 @@ module _ (p s : List ℕ) (long : length s ≡ 190) (ok : Ranges p) where
       let d : depth s ≡ suc (length r) = high p s (f ∷ r) h in
       let deep′ : getD s′ 0 0 ≡ n = said-depth s long k nobody n in
       let d′ : depth s′ ≡ k = omega arith in
+      let others : (j : ℕ) → j ≢ k → (frameAt s′ j ≡ frameAt s j) × ((j < length r → j < suc (length r)) × (length r ≤ j → suc (length r) ≤ j)) = λ j o. (said-others s long k nobody n j o, (λ low. omega arith, λ far. omega arith)) in
       record {
         room = omega arith;
         deep = deep′ ∙ e′;
         same = ap (λ (j : ℕ). framesAt s′ j) d′ ∙ said-below s long k nobody n ∙ ap (λ (j : ℕ). framesAt s j) e ∙ newest p s f r h .rest;
         coherent = h .coherent .1;
-        fits = fits-after p s s′ k n (h .fits) deep′ (omega arith) (λ j o. (said-others s long k nobody n j o, (λ low. omega arith, λ far. omega arith)))
-            (λ above. absurd (omega arith)) (λ _. said-frame s long k nobody n (omega arith));
+        used = used-after p s s′ k (suc (length r)) (length r) others (h .used) (λ below. absurd (omega arith));
+        above = free-after p s s′ k (suc (length r)) (length r) others (h .above) (λ _. said-frame s long k nobody n (omega arith));
       }
 
   -- enable, disable, revert: the newest frame with other marks
@@ -127,14 +134,15 @@ module _ (p s : List ℕ) (long : length s ≡ 190) (ok : Ranges p) where
       let deep′ : getD s′ 0 0 ≡ suc k = put-depth s k m ∙ h .deep in
       let d′ : depth s′ ≡ suc k = omega arith in
       let top′ : frameAt s′ k ≡ m = put-frame s k m long (omega arith) in
+      let others : (j : ℕ) → j ≢ k → (frameAt s′ j ≡ frameAt s j) × ((j < suc k → j < suc k) × (suc k ≤ j → suc k ≤ j)) = λ j o. (put-others s k m j o, (λ low. low, λ far. far)) in
       rw (d, m′) (record {
         room = room;
         deep = deep′;
         same = ap (λ (n : ℕ). framesAt s′ n) d′
             ∙ ap₂ (λ (x : Marked) (xs : List Marked). x ∷ xs) top′ (framesAt-same s s′ k (λ j l. put-others s k m j (omega arith)) ∙ newest p s f r h .rest);
         coherent = (sound, h .coherent .1);
-        fits = fits-after p s s′ k (suc k) (h .fits) deep′ room (λ j o. (put-others s k m j o, (λ low. omega arith, λ far. omega arith)))
-            (λ _. rw top′ (used (rw top at (fitting p s (h .fits) .used k (omega arith))))) (λ past. absurd (omega arith));
+        used = used-after p s s′ k (suc k) (suc k) others (h .used) (λ _. rw top′ (used (rw top at (h .used k (omega arith)))));
+        above = free-after p s s′ k (suc k) (suc k) others (h .above) (λ past. absurd (omega arith));
       })
 
   -- marks for a target of the policy
@@ -156,7 +164,7 @@ module _ (p s : List ℕ) (long : length s ≡ 190) (ok : Ranges p) where
 
   pub simulate : (op : Operation) → inside p op ≡ true → (st : List Frame) → Pictures p s st → Mirrors (Pictures p) true (stepIn p s op) (step p op st)
   unfolding step markIn callIn returnIn checkIn enable disable revert
-  simulate (Call g) i st h = call-mirrors (Pictures p) true s (depth s) (high p s) p g _ (call-kept g (ltb-true g (signers p) i)) st h
+  simulate (Call g) i st h = call-mirrors (Pictures p) true s (depth s) (high p s) p g _ (λ st k l. call-kept g _ _ _ (ltb-true g (signers p) i) st (high p s st k) (omega (arith, high p s st k)) (ap (newFrame p g) (high p s st k) ∙ new-frame g st) k l) st h
   simulate Return i st h = return-mirrors (Pictures p) true s (depth s) (high p s) _ (λ f r k. return-kept _ _ f r (omega (arith, high p s (f ∷ r) k)) (omega (arith, high p s (f ∷ r) k)) k) st h
   simulate (Enable t) i st h = newest-mirrors (Pictures p) true s (depth s) (high p s) _ (enable t) (λ f r k. mark-kept (Enable t) f (enable t f) r refl (enable-used t (ltb-true t (targets p) i) f) (enable-sound p t f r (k .coherent .0) (in-word p ok t i)) k) st h
   simulate (Disable t) i st h = newest-mirrors (Pictures p) true s (depth s) (high p s) _ (disable t) (λ f r k. mark-kept (Disable t) f (disable t f) r refl (disable-used t (ltb-true t (targets p) i) f) (disable-sound p t f r (k .coherent .0) (in-word p ok t i)) k) st h

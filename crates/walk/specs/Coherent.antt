@@ -1,14 +1,16 @@
 -- The belief sets and the marks of a stack tell the same, under a policy; and which stack a walk state pictures.
 use mathlib.Core.Path.{_≡_}
-use mathlib.Core.Bool.{true, not, _&&_}
+use mathlib.Core.Bool.{not, _&&_}
 use mathlib.Core.List.{List, [], _∷_, map}
-use Prim.Native.Nat.{ℕ, _≤_}
+use Prim.Native.Nat.{ℕ, _^_, _≤_, _<_}
 use lib.ListN.{length, getD}
 use Rattle.bits.specs.Bit.{bit}
 use Rattle.beliefs.specs.Lists.{any}
-use Rattle.beliefs.specs.Stack.{Frame, own, granted, marked}
+use Rattle.beliefs.specs.declared.Marked.{Marked}
+use Rattle.beliefs.specs.Policy.{signers, targets}
+use Rattle.beliefs.specs.Stack.{Frame, own, granted, marked, nobody}
 use Rattle.beliefs.specs.Engine.{inherited}
-use Rattle.walk.specs.State.{frames, fits}
+use Rattle.walk.specs.State.{frameAt, frames}
 
 -- a frame owns what it has enabled, and inherited what its callers are granted and it has not disabled
 pub record Sound (p : List ℕ) (f : Frame) (r : List Frame) : Type 0 where
@@ -19,10 +21,17 @@ abbrev pub Coherent : List ℕ → List Frame → Type 0
 Coherent p [] = Unit {0}
 Coherent p (f ∷ r) = Sound p f r × Coherent p r
 
--- the state's frames are the stack's, and number 14 lets it through
+-- a frame of a signer below S, with marks for targets below N only
+pub record Used (p : List ℕ) (m : Marked) : Type 0 where
+  pub signer : m .signer < signers p
+  pub enabled : m .enabled < 2 ^ targets p
+  pub disabled : m .disabled < 2 ^ targets p
+
+-- the state's frames are the stack's, each one of the policy's, with nothing but zero above them
 pub record Pictures (p s : List ℕ) (st : List Frame) : Type 0 where
   pub room : length st ≤ 63
   pub deep : getD s 0 0 ≡ length st
   pub same : frames s ≡ map marked st
   pub coherent : Coherent p st
-  pub fits : fits p s ≡ true
+  pub used : (j : ℕ) → j < length st → Used p (frameAt s j)
+  pub above : (j : ℕ) → length st ≤ j → j < 63 → frameAt s j ≡ nobody
