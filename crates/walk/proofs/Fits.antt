@@ -129,18 +129,23 @@ pictured-fits p s st h =
     let deep : depth s ≡ length st = omega (arith, h .room, h .deep) in
     fitted p s (record { few = omega (arith, h .room, h .deep); used = λ j l. h .used j (omega arith); free = λ j l m. h .above j (omega arith) m })
 
--- another frame above k others, and another depth: what is in use or free is so still, but for that frame
-module _ (p s s′ : List ℕ) (k d n : ℕ) (others : (j : ℕ) → j ≢ k → (frameAt s′ j ≡ frameAt s j) × ((j < n → j < d) × (n ≤ j → d ≤ j))) where
+-- another frame above k others, and another depth, n for d: but for that frame all stay, in use or free
+pub record Besides (s s′ : List ℕ) (k d n : ℕ) : Type 0 where
+  pub same : (j : ℕ) → j ≢ k → frameAt s′ j ≡ frameAt s j
+  pub low : (j : ℕ) → j ≢ k → j < n → j < d
+  pub high : (j : ℕ) → j ≢ k → n ≤ j → d ≤ j
+
+module _ (p : List ℕ) {s s′ : List ℕ} {k d n : ℕ} (others : Besides s s′ k d n) where
   pub used-after : ((j : ℕ) → j < d → Used p (frameAt s j)) → (k < n → Used p (frameAt s′ k)) → (j : ℕ) → j < n → Used p (frameAt s′ j)
   used-after was here j l = go (eqb j k) refl
     where
       go : (e : Bool) → eqb j k ≡ e → Used p (frameAt s′ j)
       go true q = let same : j ≡ k = eqb-true j k q in rw same (here (omega arith))
-      go false q = let o = others j (eqb-false j k q) in rw (o .0) (was j (o .1 .0 l))
+      go false q = let o : j ≢ k = eqb-false j k q in rw (others .same j o) (was j (others .low j o l))
 
   pub free-after : ((j : ℕ) → d ≤ j → j < 63 → frameAt s j ≡ nobody) → (n ≤ k → frameAt s′ k ≡ nobody) → (j : ℕ) → n ≤ j → j < 63 → frameAt s′ j ≡ nobody
   free-after was here j l m = go (eqb j k) refl
     where
       go : (e : Bool) → eqb j k ≡ e → frameAt s′ j ≡ nobody
       go true q = let same : j ≡ k = eqb-true j k q in rw same (here (omega arith))
-      go false q = let o = others j (eqb-false j k q) in o .0 ∙ was j (o .1 .1 l) m
+      go false q = let o : j ≢ k = eqb-false j k q in others .same j o ∙ was j (others .high j o l) m

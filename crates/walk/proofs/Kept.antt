@@ -26,7 +26,7 @@ use Rattle.beliefs.proofs.Policy.{Ranges, ranges, in-word}
 use Rattle.walk.specs.State.{depth, frameAt, framesAt, frames, put, remarked, markIn, newFrame, callIn, returnIn, checkIn, stepIn}
 use Rattle.walk.specs.Coherent.{Sound, Used, Pictures}
 use Rattle.walk.proofs.Frames.{length-put, put-frame, put-others, put-depth, set-depth, framesAt-same}
-use Rattle.walk.proofs.Fits.{used-after, free-after}
+use Rattle.walk.proofs.Fits.{Besides, used-after, free-after}
 use Rattle.walk.proofs.Agree.{agree, enable-sound, disable-sound, revert-sound, call-sound}
 
 -- a fresh state, all zeros, pictures the stack with no frame
@@ -90,15 +90,15 @@ module _ (p s : List ℕ) (long : length s ≡ 190) (ok : Ranges p) where
       let deep′ : getD s′ 0 0 ≡ suc (length st) = said-depth s long k m n ∙ e′ in
       let d′ : depth s′ ≡ suc k = omega arith in
       let top′ : frameAt s′ k ≡ marked (called p g st) = said-frame s long k m n (omega arith) ∙ is in
-      let others : (j : ℕ) → j ≢ k → (frameAt s′ j ≡ frameAt s j) × ((j < suc (length st) → j < length st) × (suc (length st) ≤ j → length st ≤ j)) = λ j o. (said-others s long k m n j o, (λ low. omega arith, λ far. omega arith)) in
+      let others : Besides s s′ k (length st) (suc (length st)) = record { same = said-others s long k m n; low = λ j o l. omega arith; high = λ j o l. omega arith } in
       let below′ : framesAt s′ k ≡ map marked st = said-below s long k m n ∙ ap (λ (n : ℕ). framesAt s n) (e ∙ sym d) ∙ h .same in
       record {
         room = l;
         deep = deep′;
         same = ap (λ (n : ℕ). framesAt s′ n) d′ ∙ ap₂ (λ (x : Marked) (xs : List Marked). x ∷ xs) top′ below′;
         coherent = (call-sound p g st (ok .targets-most), h .coherent);
-        used = used-after p s s′ k (length st) (suc (length st)) others (h .used) (λ _. rw top′ (new-used g known st));
-        above = free-after p s s′ k (length st) (suc (length st)) others (h .above) (λ past. absurd (omega arith));
+        used = used-after p others (h .used) (λ _. rw top′ (new-used g known st));
+        above = free-after p others (h .above) (λ past. absurd (omega arith));
       }
 
   -- return: zeros in the newest frame's place, above k others, and the depth n
@@ -109,14 +109,14 @@ module _ (p s : List ℕ) (long : length s ≡ 190) (ok : Ranges p) where
       let d : depth s ≡ suc (length r) = high p s (f ∷ r) h in
       let deep′ : getD s′ 0 0 ≡ n = said-depth s long k nobody n in
       let d′ : depth s′ ≡ k = omega arith in
-      let others : (j : ℕ) → j ≢ k → (frameAt s′ j ≡ frameAt s j) × ((j < length r → j < suc (length r)) × (length r ≤ j → suc (length r) ≤ j)) = λ j o. (said-others s long k nobody n j o, (λ low. omega arith, λ far. omega arith)) in
+      let others : Besides s s′ k (suc (length r)) (length r) = record { same = said-others s long k nobody n; low = λ j o l. omega arith; high = λ j o l. omega arith } in
       record {
         room = omega arith;
         deep = deep′ ∙ e′;
         same = ap (λ (j : ℕ). framesAt s′ j) d′ ∙ said-below s long k nobody n ∙ ap (λ (j : ℕ). framesAt s j) e ∙ newest p s f r h .rest;
         coherent = h .coherent .1;
-        used = used-after p s s′ k (suc (length r)) (length r) others (h .used) (λ below. absurd (omega arith));
-        above = free-after p s s′ k (suc (length r)) (length r) others (h .above) (λ _. said-frame s long k nobody n (omega arith));
+        used = used-after p others (h .used) (λ below. absurd (omega arith));
+        above = free-after p others (h .above) (λ _. said-frame s long k nobody n (omega arith));
       }
 
   -- enable, disable, revert: the newest frame with other marks
@@ -134,15 +134,15 @@ module _ (p s : List ℕ) (long : length s ≡ 190) (ok : Ranges p) where
       let deep′ : getD s′ 0 0 ≡ suc k = put-depth s k m ∙ h .deep in
       let d′ : depth s′ ≡ suc k = omega arith in
       let top′ : frameAt s′ k ≡ m = put-frame s k m long (omega arith) in
-      let others : (j : ℕ) → j ≢ k → (frameAt s′ j ≡ frameAt s j) × ((j < suc k → j < suc k) × (suc k ≤ j → suc k ≤ j)) = λ j o. (put-others s k m j o, (λ low. low, λ far. far)) in
+      let others : Besides s s′ k (suc k) (suc k) = record { same = put-others s k m; low = λ j o l. l; high = λ j o l. l } in
       rw (d, m′) (record {
         room = room;
         deep = deep′;
         same = ap (λ (n : ℕ). framesAt s′ n) d′
             ∙ ap₂ (λ (x : Marked) (xs : List Marked). x ∷ xs) top′ (framesAt-same s s′ k (λ j l. put-others s k m j (omega arith)) ∙ newest p s f r h .rest);
         coherent = (sound, h .coherent .1);
-        used = used-after p s s′ k (suc k) (suc k) others (h .used) (λ _. rw top′ (used (rw top at (h .used k (omega arith)))));
-        above = free-after p s s′ k (suc k) (suc k) others (h .above) (λ past. absurd (omega arith));
+        used = used-after p others (h .used) (λ _. rw top′ (used (rw top at (h .used k (omega arith)))));
+        above = free-after p others (h .above) (λ past. absurd (omega arith));
       })
 
   -- marks for a target of the policy
