@@ -20,16 +20,20 @@ use Rattle.beliefs.proofs.Refusals.{at-most}
 use Rattle.passed.specs.declared.Passed.{Passed}
 use Rattle.passed.specs.State.{passedFits, outsideOf, barredOf, refusalOf}
 use Rattle.passed.specs.Picture.{PassedOf, below}
-use Rattle.passed.proofs.Kept.{fresh-fits, through, not-outside}
+use Rattle.passed.proofs.Fits.{pictured-fits}
+use Rattle.passed.proofs.Kept.{through, not-outside}
 use Rattle.passed.proofs.Serves.{fresh-pictures}
-use Rattle.galmuvesh.specs.Boundary.{passedIn, returns, Follows, Moves, Says, Asks}
-use Rattle.galmuvesh.proofs.Passing.{moved-fits}
+use Rattle.galmuvesh.specs.Boundary.{passedIn, Follows, Moves, Says, Asks}
 use Rattle.demands.specs.Live.{Reached, fresh, moved, asked, PassedLived, zeros, call, enable, disable, revert, back, Numbered, Answered}
 
 -- one state's words, and the frames that they picture
 pub record Known (p s : List ℕ) (st : List Frame) : Type 0 where
   pub let-through : passedFits p (passedIn s) ≡ true
   pub pictures : PassedOf p (passedIn s) st
+
+-- what pictures a stack is let through
+known-by : (p s : List ℕ) (st : List Frame) → PassedOf p (passedIn s) st → Known p s st
+known-by p s st h = record { let-through = pictured-fits p (passedIn s) st h; pictures = h }
 
 -- all of them, the newest first
 abbrev Kept : List ℕ → List (List ℕ) → List Frame → Type 0
@@ -59,14 +63,6 @@ marks (Disable t) = true
 marks (Revert t) = true
 marks (Check t) = false
 
-marks-stay : (op : Operation) → marks op ≡ true → returns op ≡ false
-marks-stay (Call g) m = refl
-marks-stay Return m = never (sym m)
-marks-stay (Enable t) m = refl
-marks-stay (Disable t) m = refl
-marks-stay (Revert t) m = refl
-marks-stay (Check t) m = refl
-
 mark-over : (p : List ℕ) (op : Operation) → marks op ≡ true → (st : List Frame) → (below (step p op st .stack) ≡ below st) × (length (step p op st .stack) ≡ length st)
 unfolding step
 mark-over p (Call g) m st = never (sym m)
@@ -81,7 +77,7 @@ mark-over p (Check t) m st = never (sym m)
 
 module _ (p : List ℕ) (v : valid p ≡ true) where
   -- an accepted operation by the newest frame: its words then picture the stack after it, which is reached
-  module _ (s : List ℕ) (st : List Frame) (k : Known p s st) (op : Operation) (stays : returns op ≡ false) (left : List ℕ) (h : Moves p s op 0 left) where
+  module _ (s : List ℕ) (st : List Frame) (k : Known p s st) (op : Operation) (left : List ℕ) (h : Moves p s op 0 left) where
     here : inside p op ≡ true
     here = not-outside p op (through p (passedIn s) op (sym (h .number)) .outside)
 
@@ -89,7 +85,7 @@ module _ (p : List ℕ) (v : valid p ≡ true) where
     follows = h .serves v (k .let-through) here st (k .pictures)
 
     now-known : Known p left (step p op st .stack)
-    now-known = record { let-through = moved-fits p s op stays left h; pictures = follows .pictures }
+    now-known = known-by p left (step p op st .stack) (follows .pictures)
 
     now-reached : Reached p st → Reached p (step p op st .stack)
     now-reached r = moved op r here (sym (follows .number))
@@ -99,8 +95,8 @@ module _ (p : List ℕ) (v : valid p ≡ true) where
       let over = mark-over p op m st in
       record {
         count = n .count ∙ ap suc (sym (over .1));
-        known = (now-known s st (n .known .0) op (marks-stay op m) left h, rw (over .0) (n .known .1));
-        reached = now-reached s st (n .known .0) op (marks-stay op m) left h (n .reached);
+        known = (now-known s st (n .known .0) op left h, rw (over .0) (n .known .1));
+        reached = now-reached s st (n .known .0) op left h (n .reached);
       }
 
   returned : (s caller : List ℕ) (kept : List (List ℕ)) (st : List Frame) → Nest p (s ∷ caller ∷ kept) st → Nest p (caller ∷ kept) (step p Return st .stack)
@@ -109,14 +105,14 @@ module _ (p : List ℕ) (v : valid p ≡ true) where
   returned s caller kept (f ∷ r) n = record { count = omega (arith, n .count); known = n .known .1; reached = moved Return (n .reached) refl refl }
 
   pub nested : (states : List (List ℕ)) (st : List Frame) → PassedLived p states st → Nest p states st
-  nested _ _ zeros = record { count = refl; known = (record { let-through = fresh-fits p; pictures = fresh-pictures p }, tt); reached = fresh }
+  nested _ _ zeros = record { count = refl; known = (known-by p _ [] (fresh-pictures p), tt); reached = fresh }
   nested _ _ (call {s} {kept} {st} g left l h) =
       let n : Nest p (s ∷ kept) st = nested (s ∷ kept) st l in
-      let over : step p (Call g) st .stack ≡ called p g st ∷ st = call-over p g st (sym (follows s st (n .known .0) (Call g) refl left h .number)) in
+      let over : step p (Call g) st .stack ≡ called p g st ∷ st = call-over p g st (sym (follows s st (n .known .0) (Call g) left h .number)) in
       record {
         count = rw over (ap suc (n .count));
-        known = (now-known s st (n .known .0) (Call g) refl left h, rw over (n .known));
-        reached = now-reached s st (n .known .0) (Call g) refl left h (n .reached);
+        known = (now-known s st (n .known .0) (Call g) left h, rw over (n .known));
+        reached = now-reached s st (n .known .0) (Call g) left h (n .reached);
       }
   nested _ _ (enable {s} {kept} {st} t left l h) = marked s kept st (nested (s ∷ kept) st l) (Enable t) refl left h
   nested _ _ (disable {s} {kept} {st} t left l h) = marked s kept st (nested (s ∷ kept) st l) (Disable t) refl left h

@@ -64,10 +64,10 @@ module _ (p s : List ℕ) (st : List Frame) (h : PassedOf p (passedIn s) st) (n 
   says t lent false q g = record { number = g .number; answer = rw (← g .number, q) }
 
 module _ (p s : List ℕ) where
-  goes : (op : Operation) → valid p ≡ true → passedFits p (passedIn s) ≡ true → inside p op ≡ true → (st : List Frame) → PassedOf p (passedIn s) st
+  goes : (op : Operation) → valid p ≡ true → inside p op ≡ true → (st : List Frame) → PassedOf p (passedIn s) st
       → Goes p st (step p op st) (unless (refusalOf p (passedIn s) op) (ledTo p (passedIn s) op))
   unfolding operateOf
-  goes op v f i st h = operates p (passedIn s) op v f i st h
+  goes op v i st h = operates p (passedIn s) op v i st h
 
   -- what is exactly given keeps the promise of call, enable, disable and revert
   pub moves-by : (op : Operation) → returns op ≡ false → (n : ℕ) (left : List ℕ) → n ≡ refusalOf p (passedIn s) op
@@ -75,7 +75,7 @@ module _ (p s : List ℕ) where
   moves-by op r n left a b = rw a (record {
     number = refl;
     state = rw a at b;
-    serves = λ v f i st h. rw (b, a) (follows p s st h (refusalOf p (passedIn s) op) op r (eqb (refusalOf p (passedIn s) op) 0) refl (goes op v f i st h));
+    serves = λ v f i st h. rw (b, a) (follows p s st h (refusalOf p (passedIn s) op) op r (eqb (refusalOf p (passedIn s) op) 0) refl (goes op v i st h));
   })
 
   -- and that of check
@@ -83,7 +83,7 @@ module _ (p s : List ℕ) where
   asks-by t n lent byte a b = rw a (record {
     number = refl;
     answer = rw a at b;
-    serves = λ v f i st h. rw (b, a) (says p s st h (refusalOf p (passedIn s) (Check t)) t lent (eqb (refusalOf p (passedIn s) (Check t)) 0) refl (goes (Check t) v f i st h));
+    serves = λ v f i st h. rw (b, a) (says p s st h (refusalOf p (passedIn s) (Check t)) t lent (eqb (refusalOf p (passedIn s) (Check t)) 0) refl (goes (Check t) v i st h));
   })
 
 -- an operation on words that number 14 lets through leaves such words

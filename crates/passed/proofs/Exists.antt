@@ -17,12 +17,12 @@ use Rattle.beliefs.specs.Stack.{Principal, Belief, Frame, on, own, permitted}
 use Rattle.beliefs.specs.Engine.{inherited}
 use Rattle.passed.specs.declared.Passed.{Passed}
 use Rattle.passed.specs.State.{passedFits}
-use Rattle.passed.specs.Picture.{Knows, PassedOf}
+use Rattle.passed.specs.Picture.{Knows, Framed, PassedOf}
 use Rattle.bits.proofs.Laws.{below-bits}
 use Rattle.beliefs.proofs.Policy.{both}
 use Rattle.beliefs.proofs.Lists.{any-append}
 use Rattle.beliefs.proofs.Chosen.{chosen, chosen-any}
-use Rattle.passed.proofs.Fits.{Framed, fits-fresh, fits-framed}
+use Rattle.passed.proofs.Fits.{fits-fresh, fits-framed}
 
 -- each target in w is permitted to a signer that can be named
 pub record Permitted (p : List ℕ) (w : ℕ) : Type 0 where
@@ -71,12 +71,12 @@ module _ (p : List ℕ) (s : Passed) (g : Permitted p (s .callers)) where
   pictured h = go (eqb (s .depth) 0) refl
     where
       go : (e : Bool) → eqb (s .depth) 0 ≡ e → (st : List Frame) × PassedOf p s st
-      go true q = let d : s .depth ≡ 0 = eqb-true (s .depth) 0 q in ([], record { few = omega arith; deep = d; says = fits-fresh p s h d })
+      go true q = let d : s .depth ≡ 0 = eqb-true (s .depth) 0 q in ([], record { deep = d; framed = fits-framed p s h; says = fits-fresh p s h d })
       go false q =
           let d : s .depth ≢ 0 = eqb-false (s .depth) 0 q in
           let f : Framed p s = fits-framed p s h d in
           let n : length (replicate (s .depth - 1) newest) ≡ s .depth - 1 = length-replicate (s .depth - 1) newest in
-          (newest ∷ replicate (s .depth - 1) newest, record { few = omega arith; deep = omega arith; says = newest-knows (f .own) (f .callers) })
+          (newest ∷ replicate (s .depth - 1) newest, record { deep = omega arith; framed = fits-framed p s h; says = newest-knows (f .own) (f .callers) })
 
 -- and only those: a belief that came down and is permitted throughout names a permitted signer, the first of its chain
 first : List Principal → ℕ

@@ -1,26 +1,21 @@
--- What the test of 14 says of a state that it lets through. Assumes nothing.
-use mathlib.Core.Path.{_≡_, refl}
+-- What the test of 14 says of a state that it lets through; and it lets through each state that pictures a stack. Assumes nothing.
+use mathlib.Core.Path.{_≡_, refl, ap}
 use mathlib.Core.Logic.{_≢_}
 use mathlib.Core.Bool.{Bool, true, false, cond, _&&_}
-use mathlib.Core.List.{List}
-use Prim.Native.Nat.{ℕ, _^_, _≤_, _<_}
+use mathlib.Core.List.{List, [], _∷_}
+use Prim.Native.Nat.{ℕ, suc, _^_, _<_}
 use native.Mathlib.Omega.{arith}
 use lib.Dec.{eqb, ltb, leb}
+use lib.ListN.{length}
 use lib.Pow.{pow-pos}
 use borrow.Author.Tests.{lt-ltb, le-leb, eq-eqb, ne-eqb, ltb-true, leb-true, eqb-true, eqb-false}
 use Rattle.bits.specs.Bit.{below}
 use Rattle.beliefs.specs.Policy.{signers, targets}
+use Rattle.beliefs.specs.Stack.{Frame}
 use Rattle.beliefs.proofs.Policy.{both}
 use Rattle.passed.specs.declared.Passed.{Passed}
 use Rattle.passed.specs.State.{fresh, bitsFit, passedFits}
-
--- a state with a frame
-pub record Framed (p : List ℕ) (s : Passed) : Type 0 where
-  pub deep : s .depth ≤ 63
-  pub signer : s .signer < signers p
-  pub own : s .own < 2 ^ targets p
-  pub callers : s .callers < 2 ^ targets p
-  pub bottom : s .depth ≡ 1 → s .callers ≡ 0
+use Rattle.passed.specs.Picture.{Framed, PassedOf}
 
 module _ (p : List ℕ) (s : Passed) where
   pub fits-fresh : passedFits p s ≡ true → s .depth ≡ 0 → s ≡ fresh
@@ -56,3 +51,12 @@ module _ (p : List ℕ) (s : Passed) where
       go : (e : Bool) → eqb (s .depth) 1 ≡ e → cond e (eqb (s .callers) 0) (ltb (s .callers) (2 ^ targets p)) ≡ true
       go true q = eq-eqb (s .callers) 0 (f .bottom (eqb-true (s .depth) 1 q))
       go false q = lt-ltb (s .callers) (2 ^ targets p) (f .callers)
+
+  -- a state that pictures a stack
+  pub pictured-fits : (st : List Frame) → PassedOf p s st → passedFits p s ≡ true
+  unfolding passedFits
+  pictured-fits [] h = ap (λ (x : Passed). passedFits p x) (h .says)
+  pictured-fits (f ∷ r) h =
+      let d : s .depth ≡ suc (length r) = h .deep in
+      let some : s .depth ≢ 0 = omega arith in
+      framed-fits some (h .framed some)

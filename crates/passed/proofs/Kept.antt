@@ -23,10 +23,11 @@ use Rattle.passed.specs.declared.Passed.{Passed}
 use Rattle.passed.specs.declared.Next.{Next}
 use Rattle.passed.specs.declared.Next.the-variants.{Stay, Down, Up, Refused}
 use Rattle.passed.specs.State.{fresh, grantedOf, callOf, unless, barredOf, ledTo, passedFits, outsideOf, refusalOf, operateOf}
+use Rattle.passed.specs.Picture.{Framed}
 use Rattle.beliefs.proofs.Granted.{start-lt}
 use Rattle.beliefs.proofs.Policy.{ranges}
 use Rattle.beliefs.proofs.Refusals.{spared, met}
-use Rattle.passed.proofs.Fits.{Framed, fits-framed, framed-fits}
+use Rattle.passed.proofs.Fits.{fits-framed, framed-fits}
 
 -- the state that an answer carries, where it carries one
 abbrev pub Fit : List ℕ → Next → Type 0

@@ -1,5 +1,5 @@
 pub mod Fits
-pub mod Serves
 pub mod Kept
+pub mod Serves
 pub mod Exists
 pub mod Unique

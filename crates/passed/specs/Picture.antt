@@ -3,12 +3,12 @@ use mathlib.Core.Path.{_≡_}
 use mathlib.Core.Logic.{_≢_}
 use mathlib.Core.Bool.{true, false}
 use mathlib.Core.List.{List, [], _∷_}
-use Prim.Native.Nat.{ℕ, _≤_}
+use Prim.Native.Nat.{ℕ, _^_, _≤_, _<_}
 use lib.ListN.{length}
 use Rattle.bits.specs.Bit.{bit}
 use Rattle.beliefs.specs.declared.Operation.{Operation}
 use Rattle.beliefs.specs.Lists.{any}
-use Rattle.beliefs.specs.Policy.{valid}
+use Rattle.beliefs.specs.Policy.{signers, targets, valid}
 use Rattle.beliefs.specs.Stack.{Frame, own}
 use Rattle.beliefs.specs.Trace.{Outcome, answerByte, step}
 use Rattle.beliefs.specs.Engine.{inside, inherited}
@@ -29,10 +29,18 @@ abbrev pub Says : List ℕ → Passed → List Frame → Type 0
 Says p s [] = s ≡ fresh
 Says p s (f ∷ r) = Knows p s f
 
+-- with a frame: depth not over 63, signer below S, no bit for a target at N or above; at depth 1, where a chain has length 0, none of the callers
+pub record Framed (p : List ℕ) (s : Passed) : Type 0 where
+  pub deep : s .depth ≤ 63
+  pub signer : s .signer < signers p
+  pub own : s .own < 2 ^ targets p
+  pub callers : s .callers < 2 ^ targets p
+  pub bottom : s .depth ≡ 1 → s .callers ≡ 0
+
 -- the state of the newest frame of a stack
 pub record PassedOf (p : List ℕ) (s : Passed) (st : List Frame) : Type 0 where
-  pub few : length st ≤ 63
   pub deep : s .depth ≡ length st
+  pub framed : s .depth ≢ 0 → Framed p s
   pub says : Says p s st
 
 -- a fresh state: without a frame, under any policy
