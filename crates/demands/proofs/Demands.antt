@@ -36,6 +36,7 @@ use Rattle.record.proofs.Served as record-served
 use Rattle.record.proofs.Stays as record-stays′
 use Rattle.passed.specs.State.{passedFits}
 use Rattle.passed.specs.Picture.{PassedOf}
+use Rattle.passed.proofs.Fits.{pictured-fits}
 use Rattle.runner.specs.Equal.{OneVerdict}
 use Rattle.runner.proofs.Equal.{three-runs}
 use Rattle.derivation.specs.Promise.{checking}
@@ -126,17 +127,17 @@ module _ (p : List ℕ) (v : valid p ≡ true) where
   -- a function there: call, enable, disable, revert.
   module _ (s : List ℕ) (kept : List (List ℕ)) (st : List Frame) (l : PassedLived p (s ∷ kept) st) where
     pub passed-live : Live (λ words. PassedOf p (passedIn words)) (λ words. passedFits p (passedIn words)) p s st
-    passed-live = let n = nested.nested p v (s ∷ kept) st l in record { let-through = n .known .0 .let-through; pictures = n .known .0 .pictures; reached = n .reached }
+    passed-live = let n = nested.nested p v (s ∷ kept) st l in record { let-through = pictured-fits p (passedIn s) st (n .known .0); pictures = n .known .0; reached = n .reached }
 
     pub passed-kept : length kept ≡ length st
     passed-kept = omega (arith, nested.nested p v (s ∷ kept) st l .count)
 
     pub passed-moves : (op : Operation) (n : ℕ) (left : List ℕ) → Moves p s op n left → Numbered (asked p op st) n
-    passed-moves op n left h = nested.numbered p v s st (passed-live .let-through) op n (h .number) (λ i. h .serves v (passed-live .let-through) i st (passed-live .pictures) .number)
+    passed-moves op n left h = nested.numbered p v s st (passed-live .let-through) op n (h .number) (λ i. h .serves v i st (passed-live .pictures) .number)
 
     pub passed-answers : (t n lent byte : ℕ) → Asks p s t n lent byte → Answered false (asked p (Check t) st) lent n byte
     passed-answers t n lent byte h =
-        nested.answered p v s st (passed-live .let-through) t n lent byte (h .number) h (λ i. h .serves v (passed-live .let-through) i st (passed-live .pictures))
+        nested.answered p v s st (passed-live .let-through) t n lent byte (h .number) h (λ i. h .serves v i st (passed-live .pictures))
 
   -- Over one stack a word has one number by walk and record, and so has its operation on a passed state: the three accept together, and go on over one stack.
   pub one-number-live : (st : List Frame) (s q : List ℕ) → WalkLived p s st → RecordLived p q st → (w lent n byte lent′ m byte′ : ℕ) (left left′ : List ℕ)

@@ -2,7 +2,7 @@
 -- each answer is the definition's. Assumes nothing.
 use mathlib.Core.Path.{_≡_, refl, sym, ap, _∙_}
 use mathlib.Core.Bool.{Bool, true, false, cond}
-use mathlib.Core.Logic.{_≢_}
+use mathlib.Core.Logic.{_≢_, ⊎-elim}
 use mathlib.Core.List.{List, [], _∷_}
 use Prim.Native.Nat.{ℕ, suc, _≤_}
 use native.Mathlib.Omega.{arith}
@@ -14,31 +14,22 @@ use Rattle.beliefs.specs.declared.Operation.{Operation}
 use Rattle.beliefs.specs.declared.Operation.the-variants.{Call, Return, Enable, Disable, Revert, Check}
 use Rattle.beliefs.specs.Policy.{signers, targets, valid}
 use Rattle.beliefs.specs.Stack.{Frame, called}
-use Rattle.beliefs.specs.Trace.{refuse, done, answerByte, step}
+use Rattle.beliefs.specs.Trace.{Outcome, refuse, answerByte, step}
+use Rattle.beliefs.proofs.Engine.{call-step}
 use Rattle.beliefs.specs.Engine.{inside}
 use Rattle.beliefs.proofs.Refusals.{at-most}
 use Rattle.passed.specs.declared.Passed.{Passed}
 use Rattle.passed.specs.State.{passedFits, outsideOf, barredOf, refusalOf}
 use Rattle.passed.specs.Picture.{PassedOf, below}
-use Rattle.passed.proofs.Fits.{pictured-fits}
 use Rattle.passed.proofs.Kept.{through, not-outside}
 use Rattle.passed.proofs.Serves.{fresh-pictures}
 use Rattle.galmuvesh.specs.Boundary.{passedIn, Follows, Moves, Says, Asks}
 use Rattle.demands.specs.Live.{Reached, fresh, moved, asked, PassedLived, zeros, call, enable, disable, revert, back, Numbered, Answered}
 
--- one state's words, and the frames that they picture
-pub record Known (p s : List ℕ) (st : List Frame) : Type 0 where
-  pub let-through : passedFits p (passedIn s) ≡ true
-  pub pictures : PassedOf p (passedIn s) st
-
--- what pictures a stack is let through
-known-by : (p s : List ℕ) (st : List Frame) → PassedOf p (passedIn s) st → Known p s st
-known-by p s st h = record { let-through = pictured-fits p (passedIn s) st h; pictures = h }
-
--- all of them, the newest first
+-- each state's words picture the frames from its own down; the newest first
 abbrev Kept : List ℕ → List (List ℕ) → List Frame → Type 0
 Kept p [] st = Unit {0}
-Kept p (s ∷ kept) st = Known p s st × Kept p kept (below st)
+Kept p (s ∷ kept) st = PassedOf p (passedIn s) st × Kept p kept (below st)
 
 -- a state for each frame, and the zeros below
 pub record Nest (p : List ℕ) (states : List (List ℕ)) (st : List Frame) : Type 0 where
@@ -48,12 +39,8 @@ pub record Nest (p : List ℕ) (states : List (List ℕ)) (st : List Frame) : Ty
 
 -- what an accepted operation leaves of the frames below the newest
 call-over : (p : List ℕ) (g : ℕ) (st : List Frame) → step p (Call g) st .number ≡ 0 → step p (Call g) st .stack ≡ called p g st ∷ st
-unfolding step
-call-over p g st = go (ltb (length st) 63)
-  where
-    go : (e : Bool) → cond e (done (called p g st ∷ st)) (refuse 8 st) .number ≡ 0 → cond e (done (called p g st ∷ st)) (refuse 8 st) .stack ≡ called p g st ∷ st
-    go true z = refl
-    go false z = absurd (omega arith)
+call-over p g st z =
+    ⊎-elim (λ e. ap (λ (o : Outcome). o .stack) e) (λ e. let no : _≡_ {A = ℕ} 8 0 = sym (ap (λ (o : Outcome). o .number) e) ∙ z in absurd (omega arith)) (call-step p g st)
 
 abbrev marks : Operation → Bool
 marks (Call g) = false
@@ -77,15 +64,12 @@ mark-over p (Check t) m st = never (sym m)
 
 module _ (p : List ℕ) (v : valid p ≡ true) where
   -- an accepted operation by the newest frame: its words then picture the stack after it, which is reached
-  module _ (s : List ℕ) (st : List Frame) (k : Known p s st) (op : Operation) (left : List ℕ) (h : Moves p s op 0 left) where
+  module _ (s : List ℕ) (st : List Frame) (k : PassedOf p (passedIn s) st) (op : Operation) (left : List ℕ) (h : Moves p s op 0 left) where
     here : inside p op ≡ true
     here = not-outside p op (through p (passedIn s) op (sym (h .number)) .outside)
 
     follows : Follows p 0 left (step p op st)
-    follows = h .serves v (k .let-through) here st (k .pictures)
-
-    now-known : Known p left (step p op st .stack)
-    now-known = known-by p left (step p op st .stack) (follows .pictures)
+    follows = h .serves v here st k
 
     now-reached : Reached p st → Reached p (step p op st .stack)
     now-reached r = moved op r here (sym (follows .number))
@@ -95,7 +79,7 @@ module _ (p : List ℕ) (v : valid p ≡ true) where
       let over = mark-over p op m st in
       record {
         count = n .count ∙ ap suc (sym (over .1));
-        known = (now-known s st (n .known .0) op left h, rw (over .0) (n .known .1));
+        known = (follows s st (n .known .0) op left h .pictures, rw (over .0) (n .known .1));
         reached = now-reached s st (n .known .0) op left h (n .reached);
       }
 
@@ -105,13 +89,13 @@ module _ (p : List ℕ) (v : valid p ≡ true) where
   returned s caller kept (f ∷ r) n = record { count = omega (arith, n .count); known = n .known .1; reached = moved Return (n .reached) refl refl }
 
   pub nested : (states : List (List ℕ)) (st : List Frame) → PassedLived p states st → Nest p states st
-  nested _ _ zeros = record { count = refl; known = (known-by p _ [] (fresh-pictures p), tt); reached = fresh }
+  nested _ _ zeros = record { count = refl; known = (fresh-pictures p, tt); reached = fresh }
   nested _ _ (call {s} {kept} {st} g left l h) =
       let n : Nest p (s ∷ kept) st = nested (s ∷ kept) st l in
       let over : step p (Call g) st .stack ≡ called p g st ∷ st = call-over p g st (sym (follows s st (n .known .0) (Call g) left h .number)) in
       record {
         count = rw over (ap suc (n .count));
-        known = (now-known s st (n .known .0) (Call g) left h, rw over (n .known));
+        known = (follows s st (n .known .0) (Call g) left h .pictures, rw over (n .known));
         reached = now-reached s st (n .known .0) (Call g) left h (n .reached);
       }
   nested _ _ (enable {s} {kept} {st} t left l h) = marked s kept st (nested (s ∷ kept) st l) (Enable t) refl left h

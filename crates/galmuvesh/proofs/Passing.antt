@@ -5,14 +5,13 @@ use mathlib.Core.Logic.{_≢_, ⊎-elim}
 use mathlib.Core.Bool.{Bool, true, false, cond}
 use mathlib.Core.List.{List, [], _∷_}
 use Prim.Native.Nat.{ℕ}
-use lib.Dec.{eqb, ltb}
-use lib.ListN.{length}
+use lib.Dec.{eqb}
 use borrow.Author.Tests.{eqb-true}
 use Rattle.bits.proofs.Laws.{never}
 use Rattle.beliefs.specs.declared.Operation.{Operation}
 use Rattle.beliefs.specs.declared.Operation.the-variants.{Call, Return, Enable, Disable, Revert, Check}
 use Rattle.beliefs.specs.Policy.{valid}
-use Rattle.beliefs.specs.Stack.{Frame, called}
+use Rattle.beliefs.specs.Stack.{Frame}
 use Rattle.beliefs.specs.Trace.{Outcome, refuse, step}
 use Rattle.beliefs.proofs.Engine.{call-step}
 use Rattle.beliefs.specs.Engine.{inside, verdictByte}
@@ -75,7 +74,7 @@ module _ (p s : List ℕ) where
   moves-by op r n left a b = rw a (record {
     number = refl;
     state = rw a at b;
-    serves = λ v f i st h. rw (b, a) (follows p s st h (refusalOf p (passedIn s) op) op r (eqb (refusalOf p (passedIn s) op) 0) refl (goes op v i st h));
+    serves = λ v i st h. rw (b, a) (follows p s st h (refusalOf p (passedIn s) op) op r (eqb (refusalOf p (passedIn s) op) 0) refl (goes op v i st h));
   })
 
   -- and that of check
@@ -83,7 +82,7 @@ module _ (p s : List ℕ) where
   asks-by t n lent byte a b = rw a (record {
     number = refl;
     answer = rw a at b;
-    serves = λ v f i st h. rw (b, a) (says p s st h (refusalOf p (passedIn s) (Check t)) t lent (eqb (refusalOf p (passedIn s) (Check t)) 0) refl (goes (Check t) v i st h));
+    serves = λ v i st h. rw (b, a) (says p s st h (refusalOf p (passedIn s) (Check t)) t lent (eqb (refusalOf p (passedIn s) (Check t)) 0) refl (goes (Check t) v i st h));
   })
 
 -- an operation on words that number 14 lets through leaves such words

@@ -13,7 +13,7 @@ use Rattle.beliefs.specs.Stack.{Frame}
 use Rattle.beliefs.specs.Trace.{Outcome, answerByte, step}
 use Rattle.beliefs.specs.Engine.{inside, verdictByte}
 use Rattle.passed.specs.declared.Passed.{Passed}
-use Rattle.passed.specs.State.{callOf, enableOf, disableOf, revertOf, checkOf, passedFits, refusalOf}
+use Rattle.passed.specs.State.{callOf, enableOf, disableOf, revertOf, checkOf, refusalOf}
 use Rattle.passed.specs.Picture.{PassedOf}
 
 -- the number is returned, the figure goes through a pointer
@@ -52,7 +52,7 @@ pub record Follows (p : List ℕ) (n : ℕ) (left : List ℕ) (o : Outcome) : Ty
 pub record Moves (p s : List ℕ) (op : Operation) (n : ℕ) (left : List ℕ) : Type 0 where
   pub number : n ≡ refusalOf p (passedIn s) op
   pub state : left ≡ cond (eqb (refusalOf p (passedIn s) op) 0) (wordsOf (after p (passedIn s) op)) s
-  pub serves : valid p ≡ true → passedFits p (passedIn s) ≡ true → inside p op ≡ true → (st : List Frame) → PassedOf p (passedIn s) st → Follows p n left (step p op st)
+  pub serves : valid p ≡ true → inside p op ≡ true → (st : List Frame) → PassedOf p (passedIn s) st → Follows p n left (step p op st)
 
 -- check: the answer byte is written where it is accepted, and left alone otherwise
 pub record Says (n lent byte : ℕ) (o : Outcome) : Type 0 where
@@ -62,4 +62,4 @@ pub record Says (n lent byte : ℕ) (o : Outcome) : Type 0 where
 pub record Asks (p s : List ℕ) (t n lent byte : ℕ) : Type 0 where
   pub number : n ≡ refusalOf p (passedIn s) (Check t)
   pub answer : byte ≡ cond (eqb (refusalOf p (passedIn s) (Check t)) 0) (verdictByte (checkOf p (passedIn s) t) 0) lent
-  pub serves : valid p ≡ true → passedFits p (passedIn s) ≡ true → inside p (Check t) ≡ true → (st : List Frame) → PassedOf p (passedIn s) st → Says n lent byte (step p (Check t) st)
+  pub serves : valid p ≡ true → inside p (Check t) ≡ true → (st : List Frame) → PassedOf p (passedIn s) st → Says n lent byte (step p (Check t) st)

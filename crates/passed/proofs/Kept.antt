@@ -1,5 +1,4 @@
--- A fresh state and whatever the guarded operation hands back are states that 14 lets through: a host that starts fresh and keeps its
--- policy never meets it. Assumes nothing.
+-- Whatever the guarded operation hands back is a state that 14 lets through. Assumes nothing.
 use mathlib.Core.Path.{_≡_, refl, sym, ap, _∙_}
 use mathlib.Core.Logic.{_≢_}
 use mathlib.Core.Bool.{Bool, true, false, cond}
@@ -22,7 +21,7 @@ use Rattle.beliefs.specs.Engine.{inside}
 use Rattle.passed.specs.declared.Passed.{Passed}
 use Rattle.passed.specs.declared.Next.{Next}
 use Rattle.passed.specs.declared.Next.the-variants.{Stay, Down, Up, Refused}
-use Rattle.passed.specs.State.{fresh, grantedOf, callOf, unless, barredOf, ledTo, passedFits, outsideOf, refusalOf, operateOf}
+use Rattle.passed.specs.State.{grantedOf, callOf, unless, barredOf, ledTo, passedFits, outsideOf, refusalOf, operateOf}
 use Rattle.passed.specs.Picture.{Framed}
 use Rattle.beliefs.proofs.Granted.{start-lt}
 use Rattle.beliefs.proofs.Policy.{ranges}
@@ -88,10 +87,6 @@ module _ (p : List ℕ) (s : Passed) (few : targets p ≤ 64) (fits : passedFits
       (without-lt (targets p) (s .own) t (f .own), (without-lt (targets p) (s .callers) t (f .callers), λ e. ap (λ (w : ℕ). withoutBit w t) e ∙ sym (without-out 0 t (pow-pos t)))))
   led-fits (Revert t) o b = marks-fit _ _ (spared (eqb (s .depth) 0) 6 0 b .0) (λ f. (without-lt (targets p) (s .own) t (f .own), (f .callers, λ e. e)))
   led-fits (Check t) o b = fits
-
-pub fresh-fits : (p : List ℕ) → passedFits p fresh ≡ true
-unfolding passedFits
-fresh-fits p = refl
 
 -- what nothing refuses: 13, 14, 5 or 6, 7, 8 have all passed
 pub record Through (p : List ℕ) (s : Passed) (op : Operation) : Type 0 where
