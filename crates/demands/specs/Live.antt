@@ -28,6 +28,10 @@ pub data Reached (p : List ℕ) : List Frame → Type 0 where
 abbrev pub outcome : List ℕ → ℕ → List Frame → Outcome
 outcome p w st = served p (decoded (signers p) (targets p) w 0) st
 
+-- and of an operation of any signer or target, as the passed state's functions take it: 5 or 6 where it is none of the policy's
+abbrev pub asked : List ℕ → Operation → List Frame → Outcome
+asked p op st = cond (inside p op) (step p op st) (refuse (outsideOf p op) st)
+
 -- a state that is lent: zeros, then one accepted word after the other; and the definition's stack beside it
 pub data Lived (p : List ℕ) (size : ℕ) (Operated : List ℕ → ℕ → ℕ → ℕ → ℕ → List ℕ → Type 0) : List ℕ → List Frame → Type 0 where
   zeros : Lived p size Operated (replicate size 0) []
@@ -61,10 +65,6 @@ pub data PassedLived (p : List ℕ) : List (List ℕ) → List Frame → Type 0 
   -- a return is the host's own: it goes on with the caller's words
   back : {s caller : List ℕ} {kept : List (List ℕ)} {st : List Frame} → PassedLived p (s ∷ caller ∷ kept) st → PassedLived p (caller ∷ kept) (step p Return st .stack)
 
--- and of an operation of any signer or target, as the passed state's functions take it: 5 or 6 where it is none of the policy's
-abbrev pub asked : List ℕ → Operation → List Frame → Outcome
-asked p op st = cond (inside p op) (step p op st) (refuse (outsideOf p op) st)
-
 -- the definition's number, which is neither 13 nor 14
 pub record Numbered (o : Outcome) (n : ℕ) : Type 0 where
   pub number : n ≡ o .number
@@ -76,6 +76,6 @@ pub record Answered (counts : Bool) (o : Outcome) (lent n byte : ℕ) : Type 0 w
   pub numbered : Numbered o n
   pub answer : byte ≡ cond (eqb n 0) (answerByte counts o) lent
 
--- the word of a check
+-- the word of a check: operation 5 (3 bits), no signer (5), target (6), no spare (2)
 abbrev pub checkWord : ℕ → ℕ
 checkWord t = 5 * 8192 + 4 * t
