@@ -18,7 +18,7 @@ use Rattle.beliefs.specs.Stack.{Frame, marked, granted, walk}
 use Rattle.beliefs.specs.Words.{decoded}
 use Rattle.beliefs.specs.Trace.{kindOf, step, served}
 use Rattle.beliefs.specs.Derivation.{judged}
-use Rattle.beliefs.specs.Engine.{inside, verdictByte}
+use Rattle.beliefs.specs.Engine.{inside, verdictByte, Answers}
 use Rattle.beliefs.proofs.Counts.{looked-le}
 use Rattle.beliefs.proofs.Policy.{ranges}
 use Rattle.beliefs.proofs.Words.{decoded-fair}
@@ -32,11 +32,12 @@ use Rattle.walk.proofs.Kept as walk-kept
 use Rattle.walk.proofs.Exists as walk-exists
 use Rattle.record.specs.Record as records
 use Rattle.record.specs.Pictures as chains
+use Rattle.record.proofs.Exists as record-exists
 use Rattle.record.proofs.Served as record-served
 use Rattle.record.proofs.Stays as record-stays′
-use Rattle.passed.specs.State.{passedFits}
-use Rattle.passed.specs.Picture.{PassedOf}
-use Rattle.passed.proofs.Fits.{pictured-fits}
+use Rattle.passed.specs.State.{fresh, passedFits}
+use Rattle.passed.specs.Picture.{Framed, PassedOf}
+use Rattle.passed.proofs.Fits.{fits-fresh, fits-framed, pictured-fits}
 use Rattle.runner.specs.Equal.{OneVerdict}
 use Rattle.runner.proofs.Equal.{three-runs}
 use Rattle.derivation.specs.Promise.{checking}
@@ -97,6 +98,28 @@ pub one-verdict : (p trace lent : List ℕ) (n m k figure figure′ figure″ : 
     → OneVerdict p trace lent (report n figure) (report m figure′) (report k figure″) by-walk by-record by-passed
 one-verdict p trace lent n m k figure figure′ figure″ by-walk by-record by-passed =
     three-runs p trace lent (report n figure) (report m figure′) (report k figure″) by-walk by-record by-passed
+
+-- On any state, however it came about: where neither 13 nor 14 refuses a word, the state pictures some stack of the definition, and the word is answered as the definition answers it there. Of four words of a
+-- passed state: they are those of no frame, or of a frame as document 01 allows one.
+pub walk-on-any : (p s : List ℕ) (w lent n byte : ℕ) (left : List ℕ) → WalkOperated p s w lent n byte left → n ≢ 13 → n ≢ 14
+    → (st : List Frame) × stacks.Pictures p s st × Answers (stacks.Pictures p) true n lent byte left (outcome p w st)
+walk-on-any p s w lent n byte left h no-13 no-14 =
+    let let-through = live.unrefused (walks.fits p s) (walks.stepIn p s) p s w n (h .exact .number) no-13 no-14 in
+    let some = walk-exists.pictured p s (let-through .0) (let-through .1) in
+    (some .0, some .1, h .answers (let-through .0) (let-through .1) (some .0) (some .1))
+
+pub record-on-any : (p s : List ℕ) (w lent n byte : ℕ) (left : List ℕ) → length s ≡ 4096 → RecordOperated p s w lent n byte left → n ≢ 13 → n ≢ 14
+    → (st : List Frame) × chains.Pictures p s st × Answers (chains.Pictures p) false n lent byte left (outcome p w st)
+record-on-any p s w lent n byte left long h no-13 no-14 =
+    let let-through = live.unrefused (records.recordFits p s) (records.stepIn p s) p s w n (h .exact .number) no-13 no-14 in
+    let some = record-exists.pictured p s long (let-through .1) in
+    (some .0, some .1, h .answers (let-through .0) (let-through .1) (some .0) (some .1))
+
+pub passed-on-any : (p s : List ℕ) (op : Operation) (n : ℕ) (left : List ℕ) → Moves p s op n left → n ≢ 13 → n ≢ 14
+    → (getD s 0 0 ≡ 0 → passedIn s ≡ fresh) × (getD s 0 0 ≢ 0 → Framed p (passedIn s))
+passed-on-any p s op n left h no-13 no-14 =
+    let let-through = nested.unrefused p s op n (h .number) no-13 no-14 in
+    (λ d. fits-fresh p (passedIn s) let-through d, λ d. fits-framed p (passedIn s) let-through d)
 
 -- Live: an operation on a state that number 14 lets through leaves one that it lets through. (Of a passed state, each that has a function: a return is the host's. A lent record has 4096 words, as its type says.)
 pub walk-stays : (p s : List ℕ) (w lent n byte : ℕ) (left : List ℕ) → WalkOperated p s w lent n byte left → walks.fits p s ≡ true → walks.fits p left ≡ true

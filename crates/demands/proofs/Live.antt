@@ -1,8 +1,8 @@
 -- A lent state that lives from zeros by accepted words pictures the definition's stack, which is reached; so number 13 and 14 never come, and each answer is the definition's. Assumes nothing.
-use mathlib.Core.Path.{_≡_, sym, ap, _∙_}
+use mathlib.Core.Path.{_≡_, refl, sym, ap, _∙_}
 use mathlib.Core.Bool.{Bool, true, false, cond}
 use mathlib.Core.List.{List, [], _∷_, map}
-use mathlib.Core.Logic.{⊎-elim}
+use mathlib.Core.Logic.{_≢_, ⊎-elim}
 use Prim.Native.Nat.{ℕ, _≤_, _<_}
 use native.Mathlib.Omega.{arith}
 use lib.Dec.{eqb, ltb}
@@ -12,11 +12,12 @@ use Rattle.beliefs.specs.declared.Operation.{Operation}
 use Rattle.beliefs.specs.declared.Operation.the-variants.{Call, Return, Enable, Disable, Revert, Check}
 use Rattle.beliefs.specs.declared.Decoded.{Decoded}
 use Rattle.beliefs.specs.declared.Decoded.the-variants.{Word, Refused}
+use Rattle.beliefs.specs.Numbers.{badPolicy, badState}
 use Rattle.beliefs.specs.Policy.{signers, targets, valid}
 use Rattle.beliefs.specs.Stack.{Frame, granted, marked, walk}
 use Rattle.beliefs.specs.Words.{wordOperation, wordSigner, wordTarget, wordSpare, operationOf, strayIn, outsideOf, decoded}
 use Rattle.beliefs.specs.Trace.{Outcome, step, served}
-use Rattle.beliefs.specs.Engine.{Moved, verdictByte, Answers, Operate}
+use Rattle.beliefs.specs.Engine.{Moved, refuseIn, verdictByte, decodedIn, guarded, Answers, Operate}
 use Rattle.beliefs.proofs.Engine.{call-step}
 use Rattle.beliefs.proofs.Refusals.{at-most}
 use Rattle.beliefs.proofs.Words.{Fair, decoded-fair}
@@ -71,6 +72,16 @@ check-answered counts p f r t l few lent n byte a =
     let same : outcome p (checkWord t) (f ∷ r) ≡ step p (Check t) (f ∷ r) = ap (λ (d : Decoded). served p d (f ∷ r)) (check-decoded p t l few) in
     let accepted : n ≡ 0 = a .numbered .number ∙ ap (λ (o : Outcome). o .number) same in
     (accepted, a .answer ∙ rw (accepted, same))
+
+-- where neither 13 nor 14 refuses a word, policy and state have passed them
+pub unrefused : (fits : Bool) (act : Operation → Moved) (p s : List ℕ) (w n : ℕ) → n ≡ guarded fits act p w s .number → n ≢ badPolicy → n ≢ badState → (valid p ≡ true) × (fits ≡ true)
+unfolding guarded
+unrefused fits act p s w n e no-13 no-14 = go (valid p) fits refl e
+  where
+    go : (v f : Bool) → valid p ≡ v → n ≡ cond v (cond f (decodedIn act (decoded (signers p) (targets p) w 0) s) (refuseIn badState s)) (refuseIn badPolicy s) .number → (valid p ≡ true) × (f ≡ true)
+    go true true q k = (q, refl)
+    go true false q k = absurd (no-14 k)
+    go false f q k = absurd (no-13 k)
 
 module _ (p : List ℕ) (v : valid p ≡ true) where
   -- an accepted word leads from a stack that is reached to another

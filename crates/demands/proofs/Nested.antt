@@ -12,6 +12,7 @@ use borrow.Author.Tests.{ne-eqb}
 use Rattle.bits.proofs.Laws.{never}
 use Rattle.beliefs.specs.declared.Operation.{Operation}
 use Rattle.beliefs.specs.declared.Operation.the-variants.{Call, Return, Enable, Disable, Revert, Check}
+use Rattle.beliefs.specs.Numbers.{badPolicy, badState}
 use Rattle.beliefs.specs.Policy.{signers, targets, valid}
 use Rattle.beliefs.specs.Stack.{Frame, called}
 use Rattle.beliefs.specs.Trace.{Outcome, refuse, answerByte, step}
@@ -125,6 +126,16 @@ barred-number depth (Check t) = at-most (eqb depth 0) (omega arith) (omega arith
 pub refusal-number : (p : List ℕ) (s : Passed) (op : Operation) → valid p ≡ true → passedFits p s ≡ true → refusalOf p s op ≤ 8
 unfolding refusalOf
 refusal-number p s op v f = rw (v, f) (at-most (eqb (outsideOf p op) 0) (barred-number (s .depth) op) (outside-number p op))
+
+-- where neither 13 nor 14 refuses an operation, policy and words have passed them
+pub unrefused : (p s : List ℕ) (op : Operation) (n : ℕ) → n ≡ refusalOf p (passedIn s) op → n ≢ badPolicy → n ≢ badState → passedFits p (passedIn s) ≡ true
+unfolding refusalOf
+unrefused p s op n e no-13 no-14 = go (valid p) (passedFits p (passedIn s)) e
+  where
+    go : (v f : Bool) → n ≡ cond v (cond f (cond (eqb (outsideOf p op) 0) (barredOf (passedIn s .depth) op) (outsideOf p op)) badState) badPolicy → f ≡ true
+    go true true k = refl
+    go true false k = absurd (no-14 k)
+    go false f k = absurd (no-13 k)
 
 -- the number is the definition's: within the policy the step's, outside it 5 or 6
 module _ (p : List ℕ) (v : valid p ≡ true) (s : List ℕ) (st : List Frame) (f : passedFits p (passedIn s) ≡ true) where
