@@ -1,4 +1,4 @@
--- "Cases on both sides": P1 to P10, from bytes, proved together by computing the definitions.
+-- "Cases on both sides": P1 to P10, from bytes, proved together by computing the definitions; and the orders of refusal.
 use mathlib.Core.Path.{_≡_, refl}
 use mathlib.Core.Bool.{true, cond}
 use mathlib.Core.Option.{Option·elim}
@@ -106,18 +106,21 @@ unfolding readNumber rowsOf rowOf mirrored below
 read-in-order = refl
 
 -- writing one, 13 before 9; a run, 13 before 1 before 9; writing a derivation, 6 before 7 before 12 before 9; checking one, 6 before 7 before 10 before 11
-abbrev none : List ℕ
-none = 0 ∷ 0 ∷ 2 ∷ []
+abbrev unfit : List ℕ
+unfit = 0 ∷ 0 ∷ 2 ∷ []
+
+abbrev value : List ℕ
+value = valueRead (policy 0x08)
 
 abbrev frames : List ℕ → List Marked
-frames trace = map marked (stackAfter (valueRead (policy 0x08)) trace [])
+frames trace = map marked (stackAfter value trace [])
 
 pub refused-in-order : map (λ (a : Account). a .number) (
-    writing none 0 ∷ writing (valueRead (policy 0x08)) 4 ∷ run true none (0x00 ∷ []) 0 ∷ run true (valueRead (policy 0x08)) (0x00 ∷ 0x00 ∷ 0x00 ∷ []) 0 ∷ run true (valueRead (policy 0x08)) (0xC0 ∷ 0x00 ∷ []) 0
-    ∷ derived (valueRead (policy 0x08)) [] 2 0 ∷ derived (valueRead (policy 0x08)) [] 1 0 ∷ derived (valueRead (policy 0x08)) (frames (0x00 ∷ 0x00 ∷ [])) 0 0
-    ∷ derived (valueRead (policy 0x08)) (frames A3) 0 6
-    ∷ judged (valueRead (policy 0x08)) [] 2 (0x00 ∷ []) ∷ judged (valueRead (policy 0x08)) [] 1 (0x00 ∷ []) ∷ judged (valueRead (policy 0x08)) (frames A3) 0 (0x02 ∷ 0x40 ∷ 0x40 ∷ [])
-    ∷ judged (valueRead (policy 0x08)) (frames A3) 0 (0x02 ∷ 0x40 ∷ []) ∷ []
+    writing unfit 0 ∷ writing value 4
+    ∷ run true unfit (0x00 ∷ []) 0 ∷ run true value (0x00 ∷ 0x00 ∷ 0x00 ∷ []) 0 ∷ run true value (0xC0 ∷ 0x00 ∷ []) 0
+    ∷ derived value [] 2 0 ∷ derived value [] 1 0 ∷ derived value (frames (0x00 ∷ 0x00 ∷ [])) 0 0 ∷ derived value (frames A3) 0 6
+    ∷ judged value [] 2 (0x00 ∷ []) ∷ judged value [] 1 (0x00 ∷ []) ∷ judged value (frames A3) 0 (0x02 ∷ 0x40 ∷ 0x40 ∷ []) ∷ judged value (frames A3) 0 (0x02 ∷ 0x40 ∷ [])
+    ∷ []
     )
     ≡ (13 ∷ 9 ∷ 13 ∷ 1 ∷ 9 ∷ 6 ∷ 7 ∷ 12 ∷ 9 ∷ 6 ∷ 7 ∷ 10 ∷ 11 ∷ [])
 unfolding run runFrom stackAfter step called enable disable revert granted walk decoded operationOf strayIn outsideOf permits valid rowFits each mirrored rowOf rowsOf valueRead writing bit withBit withoutBit below lowest derived ours judged judge follow mayTake Option·elim

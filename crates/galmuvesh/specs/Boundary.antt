@@ -36,6 +36,7 @@ after p s (Disable t) = disableOf s t
 after p s (Revert t) = revertOf s t
 after p s (Check t) = s
 
+-- the operation that has no form here
 abbrev pub returns : Operation → Bool
 returns (Call g) = false
 returns Return = true
