@@ -97,15 +97,16 @@ pub proved : map (λ (c : Case). found (c .policy) (c .trace) (c .asked)) cases 
 unfolding run runFrom stackAfter step called enable disable revert granted walk decoded operationOf strayIn outsideOf permits valid rowFits each mirrored rowOf rowsOf readNumber valueRead bit withBit withoutBit below lowest derived ours judged judge follow mayTake Option·elim
 proved = refl
 
--- the orders of refusal: reading a policy, a header spare bit before too few bytes and bytes left over before padding; each alone
+-- the orders of refusal. Reading a policy: a header spare bit before too few and before left over, too few and left over before padding; then padding alone, and none
 pub read-in-order : map readNumber (
-    (0x08 ∷ []) ∷ (0x08 ∷ 0x11 ∷ []) ∷ (0x08 ∷ 0x10 ∷ 0xA0 ∷ 0x80 ∷ []) ∷ (0x08 ∷ 0x10 ∷ 0xA0 ∷ 0x80 ∷ 0x00 ∷ 0x00 ∷ []) ∷ (0x08 ∷ 0x10 ∷ 0xA0 ∷ 0x80 ∷ 0x00 ∷ []) ∷ policy 0x08 ∷ []
+    (0x08 ∷ []) ∷ (0x08 ∷ 0x11 ∷ []) ∷ (0x08 ∷ 0x11 ∷ 0xC0 ∷ 0x80 ∷ 0x00 ∷ 0x00 ∷ [])
+    ∷ (0x08 ∷ 0x10 ∷ 0xA0 ∷ 0x80 ∷ []) ∷ (0x08 ∷ 0x10 ∷ 0xA0 ∷ 0x80 ∷ 0x00 ∷ 0x00 ∷ []) ∷ (0x08 ∷ 0x10 ∷ 0xA0 ∷ 0x80 ∷ 0x00 ∷ []) ∷ policy 0x08 ∷ []
     )
-    ≡ (1 ∷ 3 ∷ 1 ∷ 2 ∷ 3 ∷ 0 ∷ [])
+    ≡ (1 ∷ 3 ∷ 3 ∷ 1 ∷ 2 ∷ 3 ∷ 0 ∷ [])
 unfolding readNumber rowsOf rowOf mirrored below
 read-in-order = refl
 
--- writing one, 13 before 9; a run, 13 before 1 before 9; writing a derivation, 6 before 7 before 12 before 9; checking one, 6 before 7 before 10 before 11
+-- writing a policy, 13 before 9; a run, 13 before 1 before 9; writing a derivation, 6 before 7 before 12 before 9; checking one, 6 before 7 before 10 before 11
 abbrev unfit : List ℕ
 unfit = 0 ∷ 0 ∷ 2 ∷ []
 

@@ -68,9 +68,9 @@ module _ (Pictures : List ℕ → List Frame → Type 0) (counts : Bool) where
     pub byte : r .byte ≡ answerByte counts o
     pub pictures : Pictures left (o .stack)
 
-  -- a fresh state, all zeros, pictures the stack with no frame
   pub record Serve (size : ℕ) (p s : List ℕ) (op : Operation) (r : Answer) (left : List ℕ) (m : Moved) : Type 0 where
     pub gives : Gives r left m
+    -- a fresh state, all zeros, pictures the stack with no frame
     pub begins : Pictures (replicate size 0) []
     pub serves : valid p ≡ true → inside p op ≡ true → (st : List Frame) → Pictures s st → Serves r left (step p op st)
 

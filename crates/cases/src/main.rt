@@ -45,6 +45,7 @@ const REVERT: u64 = 0x7265_7665_7274;
 
 const CHECK: u64 = 0x63_6865_636B;
 
+// What no figure or argument is: seen where none was written or given.
 const MOST: u64 = 0xFFFF_FFFF_FFFF_FFFF;
 
 // What every byte that is lent is before the call, so that one left alone is seen: no answer, step or header is like it.
@@ -143,7 +144,8 @@ fn find(text: &[u8], from: usize, mark: u8) -> usize
     text.len()
 }
 
-// A letter as a digit: the base or more where it is none.
+// A letter as a digit: the base or more where it is none. A small letter counts as its code, so that in base 256 a command's word
+// is a number.
 fn digit(letter: u8, base: u64) -> u64 {
     match letter {
         b'0'..=b'9' => (letter - b'0') as u64,
@@ -167,7 +169,7 @@ fn number(token: &[u8], from: usize, base: u64, to: &mut u64) -> bool {
     true
 }
 
-// A value so many times from an index of a list on, and how many values that then has.
+// A value so many times from an index of a list on, and how many values that then has: more than it holds where there is no room.
 fn fill(list: &mut [u64; LIST_MOST], bytes: &mut [u8], from: usize, n: u64, times: u64) -> usize {
     let mut end = from;
     for _ in 0..times {
@@ -234,7 +236,7 @@ fn single(list: &[u64; LIST_MOST], count: usize) -> u64 {
     if count == 2 { list[1] } else { MOST }
 }
 
-// What is written into a buffer, or checked.
+// What is written into a buffer, or checked. A run is named by the word of its engine's state.
 fn written(what: u64, p: &Policy, w: &Walk, t: u8, bytes: &[u8], to: &mut [u8], f: &mut u64) -> u8 {
     match what {
         WRITE => galmuvesh_policy_write(p, to, f),
@@ -279,7 +281,7 @@ fn operated(name: &[u8], number: u8, answer: u8, before: &[u64], after: &[u64]) 
     }
 }
 
-// A word by walk and record: what became of it on one of them, or of one that leads to a state, where either refuses it.
+// A word by walk and record: what became of it on the one asked, or, where it leads to a state, `?` if either refuses it.
 fn step(who: u64, p: &Policy, walk: &Walk, record: &Record, w: &mut Walk, r: &mut Record, op: u16) {
     let mut a = LENT;
     let mut b = LENT;
@@ -294,11 +296,11 @@ fn step(who: u64, p: &Policy, walk: &Walk, record: &Record, w: &mut Walk, r: &mu
     }
 }
 
-// Words in order. Only those that lead to states change them.
+// Words in order: one, or as many as lead to a state. Only those that lead to states change them.
 fn steps(who: u64, p: &Policy, w: &mut Walk, r: &mut Record, bytes: &[u8]) {
     let walk = *w;
     let record = *r;
-    if bytes.len() == 0 || bytes.len() % 2 != 0 {
+    if bytes.len() % 2 != 0 || bytes.len() != 2 && (who != AFTER || bytes.len() == 0) {
         unknown();
     }
     for i in 0..bytes.len() / 2 {
@@ -358,7 +360,7 @@ fn run(p: &Policy, w: &Walk, trace: &[u8], room: u64) {
     write(PASSED, p, w, 0, trace, room);
 }
 
-// A command: a space, its word, and its list.
+// A command: a space, its word, and its list. Room and target are one number, the last that was said.
 fn obey(text: &[u8], p: &mut Policy, w: &mut Walk, r: &mut Record, s: &mut [u64; 4], n: &mut u64) {
     let mut list = [0u64; LIST_MOST];
     let mut space = [0u8; LIST_MOST];

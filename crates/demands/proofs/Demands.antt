@@ -121,6 +121,12 @@ passed-on-any p s op n left h no-13 no-14 =
     let let-through = nested.unrefused p s op n (h .number) no-13 no-14 in
     (λ d. fits-fresh p (passedIn s) let-through d, λ d. fits-framed p (passedIn s) let-through d)
 
+pub passed-asked-on-any : (p s : List ℕ) (t n lent byte : ℕ) → Asks p s t n lent byte → n ≢ 13 → n ≢ 14
+    → (getD s 0 0 ≡ 0 → passedIn s ≡ fresh) × (getD s 0 0 ≢ 0 → Framed p (passedIn s))
+passed-asked-on-any p s t n lent byte h no-13 no-14 =
+    let let-through = nested.unrefused p s (Check t) n (h .number) no-13 no-14 in
+    (λ d. fits-fresh p (passedIn s) let-through d, λ d. fits-framed p (passedIn s) let-through d)
+
 -- Live: an operation on a state that number 14 lets through leaves one that it lets through. (Of a passed state, each that has a function: a return is the host's. A lent record has 4096 words, as its type says.)
 pub walk-stays : (p s : List ℕ) (w lent n byte : ℕ) (left : List ℕ) → WalkOperated p s w lent n byte left → walks.fits p s ≡ true → walks.fits p left ≡ true
 walk-stays p s w lent n byte left h = walk-exists.operate-stays p s w n lent byte left h
@@ -162,7 +168,8 @@ module _ (p : List ℕ) (v : valid p ≡ true) where
     passed-answers t n lent byte h =
         nested.answered p v s st (passed-live .let-through) t n lent byte (h .number) h (λ i. h .serves v i st (passed-live .pictures))
 
-  -- Over one stack a word has one number by walk and record, and so has its operation on a passed state: the three accept together, and go on over one stack.
+  -- Over one stack a word has one number by walk and record, and so has its operation on a passed state: the three accept together, and go on over one stack. (For a check
+  -- there is `passed-verdict`; a return is the host's, which wherever there is a frame has a caller's words to go on with: `passed-kept`.)
   pub one-number-live : (st : List Frame) (s q : List ℕ) → WalkLived p s st → RecordLived p q st → (w lent n byte lent′ m byte′ : ℕ) (left left′ : List ℕ)
       → WalkOperated p s w lent n byte left → RecordOperated p q w lent′ m byte′ left′ → n ≡ m
   one-number-live st s q h k w lent n byte lent′ m byte′ left left′ a b = walk-answers s st h w lent n byte left a .numbered .number ∙ sym (record-answers q st k w lent′ m byte′ left′ b .numbered .number)
@@ -218,7 +225,7 @@ pub written-again : (bytes other value : List ℕ) → Bytes bytes → PolicyRea
 written-again bytes other value b r lent left n figure room h = round.write-after-read bytes other value 0 b r refl lent left (report n figure) room h
 
 -- 3. "A verdict can be shown to a stranger. Our checker accepts just what document 01's rules allow."
--- On a valid policy, a state that number 14 lets through and then its frames, the checker answers as `judged` does: rule by rule, step by step.
+-- On a valid policy and a state that number 14 lets through, the checker answers as `judged` does of the state's frames: rule by rule, step by step.
 pub checker-judges : (p s : List ℕ) (t : ℕ) (steps : List ℕ) (n figure : ℕ) → valid p ≡ true → walks.fits p s ≡ true → DerivationChecked p s t steps n figure
     → (n ≡ judged p (walks.frames s) t steps .number) × (figure ≡ judged p (walks.frames s) t steps .figure)
 unfolding checking

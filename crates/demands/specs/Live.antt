@@ -71,7 +71,7 @@ pub record Numbered (o : Outcome) (n : ℕ) : Type 0 where
   pub never-13 : n ≢ badPolicy
   pub never-14 : n ≢ badState
 
--- and where that is 0 the definition's answer byte
+-- and where that is 0 the definition's answer byte; otherwise the byte is as it was lent
 pub record Answered (counts : Bool) (o : Outcome) (lent n byte : ℕ) : Type 0 where
   pub numbered : Numbered o n
   pub answer : byte ≡ cond (eqb n 0) (answerByte counts o) lent
