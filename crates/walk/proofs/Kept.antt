@@ -23,7 +23,7 @@ use Rattle.beliefs.specs.Policy.{signers, targets}
 use Rattle.beliefs.proofs.Granted.{start-lt}
 use Rattle.beliefs.proofs.Lists.{zeros}
 use Rattle.beliefs.proofs.Policy.{Ranges, ranges, in-word}
-use Rattle.walk.specs.State.{depth, frameAt, framesAt, frames, put, remarked, markIn, newFrame, callIn, returnIn, checkIn, stepIn}
+use Rattle.walk.specs.State.{depth, frameAt, framesAt, frames, put, remarked, markIn, newFrame, calledIn, callIn, returnedIn, returnIn, checkIn, stepIn}
 use Rattle.walk.specs.Coherent.{Sound, Used, Pictures}
 use Rattle.walk.proofs.Frames.{length-put, put-frame, put-others, put-depth, set-depth, framesAt-same}
 use Rattle.walk.proofs.Fits.{Besides, used-after, free-after}
@@ -162,10 +162,22 @@ module _ (p s : List ℕ) (long : length s ≡ 190) (ok : Ranges p) where
   seen : (t : ℕ) (st : List Frame) → Pictures p s st → walk p t (frames s) ≡ record { granted = granted p t st; looked = walk p t (map marked st) .looked }
   seen t st h = ap (walk p t) (h .same) ∙ λ i. record { granted = sym (agree p t st (h .coherent)) i; looked = walk p t (map marked st) .looked }
 
+  call-simulated : (g : ℕ) → g < signers p → (st : List Frame) → Pictures p s st → Mirrors (Pictures p) true (callIn p g s) (step p (Call g) st)
+  unfolding callIn
+  call-simulated g known st h =
+      call-mirrors (Pictures p) true s (depth s) (high p s) p g (calledIn p g s)
+      (λ st k l. call-kept g _ _ _ known st (high p s st k) (omega (arith, high p s st k)) (ap (newFrame p g) (high p s st k) ∙ new-frame g st) k l) st h
+
+  return-simulated : (st : List Frame) → Pictures p s st → Mirrors (Pictures p) true (returnIn s) (step p Return st)
+  unfolding returnIn step
+  return-simulated st h =
+      return-mirrors (Pictures p) true s (depth s) (high p s) (returnedIn s)
+      (λ f r k. return-kept _ _ f r (omega (arith, high p s (f ∷ r) k)) (omega (arith, high p s (f ∷ r) k)) k) st h
+
   pub simulate : (op : Operation) → inside p op ≡ true → (st : List Frame) → Pictures p s st → Mirrors (Pictures p) true (stepIn p s op) (step p op st)
-  unfolding step markIn callIn returnIn checkIn enable disable revert
-  simulate (Call g) i st h = call-mirrors (Pictures p) true s (depth s) (high p s) p g _ (λ st k l. call-kept g _ _ _ (ltb-true g (signers p) i) st (high p s st k) (omega (arith, high p s st k)) (ap (newFrame p g) (high p s st k) ∙ new-frame g st) k l) st h
-  simulate Return i st h = return-mirrors (Pictures p) true s (depth s) (high p s) _ (λ f r k. return-kept _ _ f r (omega (arith, high p s (f ∷ r) k)) (omega (arith, high p s (f ∷ r) k)) k) st h
+  unfolding step markIn checkIn enable disable revert
+  simulate (Call g) i st h = call-simulated g (ltb-true g (signers p) i) st h
+  simulate Return i st h = return-simulated st h
   simulate (Enable t) i st h = newest-mirrors (Pictures p) true s (depth s) (high p s) _ (enable t) (λ f r k. mark-kept (Enable t) f (enable t f) r refl (enable-used t (ltb-true t (targets p) i) f) (enable-sound p t f r (k .coherent .0) (in-word p ok t i)) k) st h
   simulate (Disable t) i st h = newest-mirrors (Pictures p) true s (depth s) (high p s) _ (disable t) (λ f r k. mark-kept (Disable t) f (disable t f) r refl (disable-used t (ltb-true t (targets p) i) f) (disable-sound p t f r (k .coherent .0) (in-word p ok t i)) k) st h
   simulate (Revert t) i st h = newest-mirrors (Pictures p) true s (depth s) (high p s) _ (revert t) (λ f r k. mark-kept (Revert t) f (revert t f) r refl (revert-used t f) (revert-sound p t f r (k .coherent .0)) k) st h

@@ -60,12 +60,18 @@ markIn op s = framedIn (depth s) (doneIn (put s (depth s - 1) (remarked op (fram
 abbrev pub newFrame : List ℕ → ℕ → ℕ → Marked
 newFrame p g k = record { signer = g; enabled = cond (eqb k 0) (startMarks p) 0; disabled = 0 }
 
+abbrev pub calledIn : List ℕ → ℕ → List ℕ → List ℕ
+calledIn p g s = set (put s (depth s) (newFrame p g (depth s))) 0 (depth s + 1)
+
 unfoldable pub callIn : List ℕ → ℕ → List ℕ → Moved
-callIn p g s = deeperIn (depth s) (set (put s (depth s) (newFrame p g (depth s))) 0 (depth s + 1)) s
+callIn p g s = deeperIn (depth s) (calledIn p g s) s
 
 -- a returned frame leaves zeros
+abbrev pub returnedIn : List ℕ → List ℕ
+returnedIn s = set (put s (depth s - 1) nobody) 0 (depth s - 1)
+
 unfoldable pub returnIn : List ℕ → Moved
-returnIn s = framedIn (depth s) (doneIn (set (put s (depth s - 1) nobody) 0 (depth s - 1))) s
+returnIn s = framedIn (depth s) (doneIn (returnedIn s)) s
 
 -- a check answers with the walk's verdict and count
 unfoldable pub checkIn : List ℕ → ℕ → List ℕ → Moved
