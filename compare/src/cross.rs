@@ -1,13 +1,13 @@
 //! What the model's own parts must say of each other: marks, records and passed states follow the literal belief sets,
 //! and derivations exist exactly where these grant.
 
-use crate::model::beliefs::Stack;
 use crate::model::derivation;
 use crate::model::passed::Passed;
 use crate::model::policy::Policy;
 use crate::model::record::{self, Record};
 use crate::model::rules::LAW;
 use crate::model::runs::Run;
+use crate::model::sets::Stack;
 use crate::model::walk::Walk;
 use crate::model::words::{Answer, Operation};
 use crate::request::{Function, Reply, Request};

@@ -2,10 +2,10 @@
 
 use crate::model::beliefs::Belief;
 use crate::model::bits::{has, with, without};
-use crate::model::derivation::Entry;
+use crate::model::marks::Frame;
 use crate::model::refusals::No::*;
 use crate::model::rules::{Reading, Rules, LAW};
-use crate::model::walk::Frame;
+use crate::model::steps::Entry;
 use crate::request::{Function, Function::*, FUNCTIONS, PASSED, RUNS};
 
 pub struct Mutant {
@@ -41,7 +41,7 @@ fn walks() -> Vec<Mutant> {
         mutant("disable leaves the enabled mark", Rules { disable: disable_only, ..LAW }, &marks),
         mutant("marks of a returned frame found again", Rules { returned: |_| {}, called: called_over, ..LAW }, &marks),
         mutant("the deciding frame is not counted", Rules { looked: |before| before, ..LAW }, &WALKS),
-        mutant("a full start is taken as empty", Rules { start: |_| 0, ..LAW }, &CALLS),
+        mutant("a full start is taken as empty", Rules { start: |_, _| 0, ..LAW }, &CALLS),
     ]
 }
 

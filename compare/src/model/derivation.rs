@@ -1,30 +1,10 @@
-//! Derivations over a policy, a walk state and a target.
+//! Derivations over a policy, a walk state and a target: checked, and written.
 
-use super::bits::{Reader, Writer};
 use super::policy::Policy;
 use super::refusals::{refuse, No};
 use super::rules::Rules;
+use super::steps::{fields, ours, Entry, DROP, SPEAK, TAKE};
 use super::walk::Walk;
-
-/// An entry of a chain; a frame is known by the signer of its code.
-#[derive(Clone, Copy, PartialEq, Eq, Debug)]
-pub enum Entry {
-    Frame(u64),
-    Signer(u64),
-    Target,
-}
-
-pub const TAKE: u64 = 0;
-pub const SPEAK: u64 = 1;
-pub const PERMIT: u64 = 2;
-pub const DROP: u64 = 3;
-
-pub fn step(rule: u64, place: u64) -> u8 {
-    let mut fields = Writer::default();
-    fields.put(rule, 2);
-    fields.put(place, 6);
-    fields.bytes()[0]
-}
 
 /// What a derivation is over, and the chain so far, newest first; none at the outset.
 struct Checker<'a> {
@@ -38,9 +18,7 @@ struct Checker<'a> {
 impl Checker<'_> {
     /// Takes a step; false where it is not allowed.
     fn allowed(&mut self, step: u8) -> bool {
-        let bytes = [step];
-        let mut fields = Reader::new(&bytes);
-        let (rule, place) = (fields.take(2), fields.take(6));
+        let (rule, place) = fields(step);
         if rule == TAKE {
             return self.take(place as usize);
         }
@@ -106,15 +84,6 @@ fn before(rules: &Rules, policy: &Policy, walk: &Walk, target: u64, no: No) -> b
         No::NoFrame => walk.depth == 0,
         _ => false,
     }
-}
-
-/// Ours for the newest n frames: take n, rule 1 at places 0 to n - 1, rule 2 likewise, then n drops.
-pub fn ours(n: u64) -> Vec<u8> {
-    let mut steps = vec![step(TAKE, n)];
-    steps.extend((0..n).map(|place| step(SPEAK, place)));
-    steps.extend((0..n).map(|place| step(PERMIT, place)));
-    steps.extend((0..n).map(|_| step(DROP, 0)));
-    steps
 }
 
 /// The derivation for a granted check, over the frames that the walk looked at.

@@ -1,13 +1,23 @@
-//! Document 01, read a second time: literal belief sets, nothing shared with the proved crates.
+//! Document 01, read a second time: literal belief sets, nothing shared with the proved crates. From the ground up: a
+//! module uses only those that stand above it here.
+
+pub mod bits;
+pub mod refusals;
 
 pub mod beliefs;
-pub mod bits;
-pub mod derivation;
-pub mod passed;
-pub mod policy;
-pub mod record;
-pub mod refusals;
+pub mod marks;
+pub mod steps;
+
 pub mod rules;
-pub mod runs;
-pub mod walk;
+
+pub mod policy;
 pub mod words;
+
+pub mod sets;
+pub mod walk;
+
+pub mod passed;
+pub mod record;
+
+pub mod derivation;
+pub mod runs;

@@ -1,10 +1,11 @@
 //! The passed state: what a frame needs to know of its callers, one bit for each target.
 
-use super::beliefs::{Belief, Stack};
+use super::beliefs::Belief;
 use super::bits::{beyond, has, with};
 use super::policy::Policy;
 use super::refusals::{refuse, No};
 use super::rules::Rules;
+use super::sets::Stack;
 use super::words::{Answer, Operation};
 
 pub const WORDS: usize = 4;
@@ -61,7 +62,7 @@ impl Passed {
 
     fn called(&self, rules: &Rules, policy: &Policy, signer: u64) -> Passed {
         let (own, callers) = match self.depth {
-            0 => ((rules.start)(policy), 0),
+            0 => (policy.at_start(rules), 0),
             _ => (0, (rules.passed_down)(policy.rows[self.signer as usize], self.own | self.callers)),
         };
         Passed { depth: self.depth + 1, signer, own, callers }
@@ -72,8 +73,8 @@ impl Passed {
         match operation {
             Operation::Call(signer) => *self = self.called(rules, policy, signer),
             Operation::Enable(t) => self.own = with(self.own, t),
-            Operation::Disable(t) => (rules.passed_disable)(self, t),
-            Operation::Revert(t) => (rules.passed_revert)(self, t),
+            Operation::Disable(t) => (self.own, self.callers) = (rules.passed_disable)(self.own, self.callers, t),
+            Operation::Revert(t) => (self.own, self.callers) = (rules.passed_revert)(self.own, self.callers, t),
             Operation::Check(t) => {
                 let held = has(self.own | self.callers, t);
                 return Answer::verdict((rules.passed_grants)(policy.permits(self.signer, t), held), 0);

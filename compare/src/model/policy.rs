@@ -1,11 +1,11 @@
 //! The policy: its value, what it permits, its byte form.
 
-use super::bits::{beyond, first, has, Reader, Writer};
+use super::bits::{beyond, has, Reader, Writer};
 use super::refusals::{refuse, No};
 use super::rules::{Reading, Rules};
 
 pub const WORDS: usize = 35;
-pub const FULL: u64 = 1;
+const FULL: u64 = 1;
 
 #[derive(Clone, PartialEq, Eq)]
 pub struct Policy {
@@ -40,6 +40,11 @@ impl Policy {
 
     pub fn permits(&self, signer: u64, target: u64) -> bool {
         self.rows.get(signer as usize).map_or(false, |&row| has(row, target))
+    }
+
+    /// The targets that a bottom frame begins with.
+    pub fn at_start(&self, rules: &Rules) -> u64 {
+        (rules.start)(self.start == FULL, self.targets)
     }
 }
 
@@ -141,13 +146,4 @@ pub fn cut(bytes: &[u8]) -> usize {
         return bytes.len();
     }
     bytes.len().min(Header::read(bytes).length())
-}
-
-/// The targets that a bottom frame begins with: under a full start each of the N.
-pub fn start(policy: &Policy) -> u64 {
-    if policy.start == FULL {
-        first(policy.targets)
-    } else {
-        0
-    }
 }

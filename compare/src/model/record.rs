@@ -1,10 +1,11 @@
 //! The belief record: for each frame and target the lengths of the chains held.
 
-use super::beliefs::{self, Belief, Chain, Frame, Set, Stack};
+use super::beliefs::{Belief, Chain, Principal};
 use super::bits::{beyond, has, with};
 use super::policy::Policy;
 use super::refusals::{refuse, No};
 use super::rules::Rules;
+use super::sets::{self, Set, Stack};
 use super::walk::FRAMES;
 use super::words::{Answer, Operation, Word};
 
@@ -65,14 +66,14 @@ impl Record {
             && others.iter().all(|&held| held == 0)
     }
 
-    fn newest(&self) -> Frame {
-        Frame { place: self.depth() - 1, signer: self.frame(self.depth())[0] }
+    fn newest(&self) -> Principal {
+        Principal { place: self.depth() - 1, signer: self.frame(self.depth())[0] }
     }
 
     /// The chain of that length which the newest frame holds: the frames just below it.
     fn chain(&self, length: u64) -> Chain {
         let below = self.depth() - length..self.depth();
-        below.fold(Chain::EMPTY, |chain, d| chain.behind(Frame { place: d - 1, signer: self.frame(d)[0] }))
+        below.fold(Chain::EMPTY, |chain, d| chain.behind(Principal { place: d - 1, signer: self.frame(d)[0] }))
     }
 
     /// The newest frame's beliefs, literally.
@@ -118,10 +119,10 @@ impl Record {
         }
         let (frame, mut set) = (self.newest(), self.beliefs());
         match operation {
-            Operation::Enable(t) => beliefs::enable(&mut set, t),
-            Operation::Disable(t) => beliefs::disable(rules, &mut set, t),
-            Operation::Revert(t) => beliefs::revert(rules, &mut set, t),
-            Operation::Check(t) => return Answer::verdict(beliefs::granted(policy, frame, &set, t), 0),
+            Operation::Enable(t) => sets::enable(&mut set, t),
+            Operation::Disable(t) => sets::disable(rules, &mut set, t),
+            Operation::Revert(t) => sets::revert(rules, &mut set, t),
+            Operation::Check(t) => return Answer::verdict(sets::granted(policy, frame, &set, t), 0),
             Operation::Return | Operation::Call(_) => {
                 self.pop();
                 return Answer::Done;
@@ -133,8 +134,8 @@ impl Record {
 
     fn call(&mut self, rules: &Rules, policy: &Policy, signer: u64) {
         let set = match self.depth() {
-            0 => beliefs::bottom(rules, policy),
-            _ => beliefs::called(rules, self.newest(), &self.beliefs()),
+            0 => sets::bottom(rules, policy),
+            _ => sets::called(rules, self.newest(), &self.beliefs()),
         };
         self.push(signer, &set);
     }

@@ -1,13 +1,11 @@
 //! Document 01's orders, and those of its sentences which an error likes, one function each. `LAW` is the document's
 //! own reading; the self-test puts a wrong one in a place and looks whether the comparison notices.
 
-use super::beliefs::{Belief, Frame as Principal};
-use super::bits::{has, with, without};
-use super::derivation::Entry;
-use super::passed::Passed;
-use super::policy::{self, Policy};
+use super::beliefs::{Belief, Principal};
+use super::bits::{first, has, with, without};
+use super::marks::Frame;
 use super::refusals::No::{self, *};
-use super::walk::Frame;
+use super::steps::Entry;
 
 /// What is tested when a policy is read; two of the numbers stand for two tests each.
 #[derive(Clone, Copy, PartialEq, Eq)]
@@ -44,7 +42,7 @@ pub struct Rules {
     pub above_clear: fn(&[u64]) -> bool,
     pub lengths: fn(u64) -> u64,
     pub row_bit: fn(u64) -> u64,
-    pub start: fn(&Policy) -> u64,
+    pub start: fn(bool, u64) -> u64,
     pub handed_down: fn(Principal, &Belief) -> Belief,
     pub disable_removes: fn(&Belief, u64) -> bool,
     pub revert_removes: fn(&Belief, u64) -> bool,
@@ -56,8 +54,8 @@ pub struct Rules {
     pub decide: fn(bool, bool, bool) -> Option<bool>,
     pub looked: fn(u64) -> u64,
     pub passed_down: fn(u64, u64) -> u64,
-    pub passed_disable: fn(&mut Passed, u64),
-    pub passed_revert: fn(&mut Passed, u64),
+    pub passed_disable: fn(u64, u64, u64) -> (u64, u64),
+    pub passed_revert: fn(u64, u64, u64) -> (u64, u64),
     pub passed_grants: fn(bool, bool) -> bool,
     pub take_allowed: fn(&[&Frame], u64) -> bool,
     pub becomes_target: fn(bool) -> bool,
@@ -77,7 +75,7 @@ pub const LAW: Rules = Rules {
     above_clear,
     lengths,
     row_bit,
-    start: policy::start,
+    start,
     handed_down,
     disable_removes,
     revert_removes,
@@ -116,6 +114,15 @@ fn lengths(depth: u64) -> u64 {
 /// "a row is N bits, target 0 first": which target the t-th bit is for.
 fn row_bit(t: u64) -> u64 {
     t
+}
+
+/// "A full start is a bottom frame with all N enabled."
+fn start(full: bool, targets: u64) -> u64 {
+    if full {
+        first(targets)
+    } else {
+        0
+    }
 }
 
 /// "every belief of the caller with the caller's name put in front"
@@ -180,13 +187,12 @@ fn passed_down(permitted: u64, held: u64) -> u64 {
 }
 
 /// A disable takes a target from both; a revert leaves what the callers would be granted.
-fn passed_disable(state: &mut Passed, t: u64) {
-    state.own = without(state.own, t);
-    state.callers = without(state.callers, t);
+fn passed_disable(own: u64, callers: u64, t: u64) -> (u64, u64) {
+    (without(own, t), without(callers, t))
 }
 
-fn passed_revert(state: &mut Passed, t: u64) {
-    state.own = without(state.own, t);
+fn passed_revert(own: u64, callers: u64, t: u64) -> (u64, u64) {
+    (without(own, t), callers)
 }
 
 /// The frame's own signer is asked, whoever enabled.

@@ -1,9 +1,9 @@
 //! A trace from a fresh start.
 
-use super::beliefs::Stack;
 use super::policy::Policy;
 use super::refusals::{refuse, No};
 use super::rules::Rules;
+use super::sets::Stack;
 use super::walk::Walk;
 use super::words::{Answer, Word};
 

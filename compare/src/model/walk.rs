@@ -1,6 +1,7 @@
-//! The walk: frames with an enabled and a disabled mark for each target.
+//! The walk over marks, newest to oldest, and the operations on its state.
 
 use super::bits::{beyond, has};
+use super::marks::Frame;
 use super::policy::Policy;
 use super::refusals::{refuse, No};
 use super::rules::Rules;
@@ -8,13 +9,6 @@ use super::words::{Answer, Operation, Word};
 
 pub const FRAMES: usize = 63;
 pub const WORDS: usize = 1 + 3 * FRAMES;
-
-#[derive(Clone, Copy, Default, PartialEq, Eq)]
-pub struct Frame {
-    pub signer: u64,
-    pub enabled: u64,
-    pub disabled: u64,
-}
 
 #[derive(Clone)]
 pub struct Walk {
@@ -95,7 +89,7 @@ impl Walk {
     }
 
     fn call(&mut self, rules: &Rules, policy: &Policy, signer: u64) {
-        let start = if self.depth == 0 { (rules.start)(policy) } else { 0 };
+        let start = if self.depth == 0 { policy.at_start(rules) } else { 0 };
         self.depth += 1;
         (rules.called)(self.newest(), signer, start);
     }

@@ -3,8 +3,8 @@
 use super::states::{reached, walk_state};
 use super::{damage, Scene};
 use crate::model::bits::has;
-use crate::model::derivation::{ours, step, DROP, PERMIT, SPEAK, TAKE};
 use crate::model::rules::LAW;
+use crate::model::steps::{ours, step, DROP, PERMIT, SPEAK, TAKE};
 use crate::model::walk::{Walk, FRAMES};
 use crate::request::{Function, Made, Request};
 

@@ -3,11 +3,11 @@
 use super::traces::{any_word, sound, DEPTH_MOST, SHAPES};
 use super::Scene;
 use crate::dice::Density;
-use crate::model::beliefs::Stack;
 use crate::model::bits::first;
 use crate::model::passed::{self, Passed};
 use crate::model::record::{self, Record};
 use crate::model::rules::LAW;
+use crate::model::sets::Stack;
 use crate::model::walk::{self, Walk};
 use crate::request::{Function, Made, PASSED};
 
