@@ -1,149 +1,158 @@
 -- For every engine: what is exactly given serves the belief sets, and each way out of an engine's `operate` keeps its promise. Assumes nothing.
-use mathlib.Core.Path.{_≡_, refl, sym, ap, ap₂, _∙_}
-use mathlib.Core.Logic.{_≢_, _⊎_, inl, inr}
+use mathlib.Core.Path.{_≡_, refl, sym, _∙_}
+use mathlib.Core.Logic.{_≢_}
 use mathlib.Core.Bool.{Bool, true, false, cond}
-use mathlib.Core.List.{List, [], _∷_, map}
-use Prim.Native.Nat.{ℕ, suc, _+_, _<_}
-use native.Mathlib.Omega.{arith}
-use lib.Dec.{eqb, ltb}
-use lib.ListN.{length}
-use borrow.Author.Tests.{eq-eqb, ne-eqb, ltb-true}
-use Rattle.bits.proofs.Laws.{never}
-use Rattle.beliefs.specs.declared.Operation.{Operation}
-use Rattle.beliefs.specs.declared.Operation.the-variants.{Call}
-use Rattle.beliefs.specs.declared.Word.{Word as Held}
-use Rattle.beliefs.specs.declared.Decoded.{Decoded}
-use Rattle.beliefs.specs.declared.Decoded.the-variants.{Word, Refused}
-use Rattle.beliefs.specs.declared.Answer.{Answer}
-use Rattle.beliefs.specs.Policy.{signers, targets, valid}
-use Rattle.beliefs.specs.Numbers.{noFrame, tooDeep}
-use Rattle.beliefs.specs.Stack.{Frame, called, granted, marked, walk}
-use Rattle.beliefs.specs.Words.{decoded}
-use Rattle.beliefs.specs.Trace.{Outcome, refuse, done, byNewest, returned, checked, answerByte, step}
-use Rattle.beliefs.specs.Engine.{inside, Moved, refuseIn, doneIn, verdictByte, verdictIn, framedIn, deeperIn, Gives, Serves, Serve, guarded, Answers, Operate}
-use Rattle.beliefs.proofs.Words.{decoded-fair}
+use mathlib.Core.List.{List, [], _∷_}
+use Prim.Native.Nat.{ℕ}
+use lib.Dec.{eqb}
+use lib.ListN.{length, replicate}
+use borrow.Author.Tests.{eq-eqb, ne-eqb, eqb-true}
+use Rattle.answers.specs.declared.Answer.{Answer}
+use Rattle.answers.specs.Answer.{Moved, refused, done, Gives}
+use Rattle.answers.proofs.Alike.{Alike, guarded-alike}
+use Rattle.words.specs.declared.Operation.{Operation}
+use Rattle.words.specs.declared.Operation.the-variants.{Call, Return, Enable, Disable, Revert, Check}
+use Rattle.words.specs.declared.Word.{Word as Held}
+use Rattle.words.specs.declared.Decoded.{Decoded}
+use Rattle.words.specs.declared.Decoded.the-variants.{Word, Refused}
+use Rattle.words.specs.Words.{framed, barred}
+use Rattle.words.proofs.Words.{decoded-fair, some-frame}
+use Rattle.beliefs.specs.Policy.{Policy, signers, targets, valid, refusalIn, outsideOf, reading}
+use Rattle.beliefs.specs.Stack.{Frame, Stack}
+use Rattle.beliefs.specs.Trace.{does, step}
+use Rattle.beliefs.specs.Engine.{Engine, acts, Serves, Serve, worded, Answers, Operate}
+use Rattle.beliefs.proofs.Policy.{let-in-with, not-refused-with}
 
--- a call is done or refused by 8
-pub call-step : (p : List ℕ) (g : ℕ) (st : List Frame) → (step p (Call g) st ≡ done (called p g st ∷ st)) ⊎ (step p (Call g) st ≡ refuse tooDeep st)
-unfolding step
-call-step p g st = go (ltb (length st) 63)
-  where
-    go : (e : Bool) → (cond e (done (called p g st ∷ st)) (refuse tooDeep st) ≡ done (called p g st ∷ st)) ⊎ (cond e (done (called p g st ∷ st)) (refuse tooDeep st) ≡ refuse tooDeep st)
-    go true = inl refl
-    go false = inr refl
+-- an operation of the policy is refused by 7 or 8, and then changes nothing; or it does what it does
+does-accepts : (counts : Bool) (p : Policy) (op : Operation) (st : Stack) → does counts p op st .number ≡ 0
+unfolding does
+does-accepts counts p (Call g) st = refl
+does-accepts counts p Return st = refl
+does-accepts counts p (Enable t) st = refl
+does-accepts counts p (Disable t) st = refl
+does-accepts counts p (Revert t) st = refl
+does-accepts counts p (Check t) st = refl
 
--- what an engine's own definition gives mirrors what the definition's step gives, over what its state pictures
-module _ (Pictures : List ℕ → List Frame → Type 0) (counts : Bool) where
-  pub record Mirrors (m : Moved) (o : Outcome) : Type 0 where
-    pub number : m .number ≡ o .number
-    pub byte : m .byte ≡ answerByte counts o
-    pub pictures : Pictures (m .state) (o .stack)
+module _ (counts : Bool) (p : Policy) (op : Operation) (st : Stack) where
+  pub step-number : step counts p op st .number ≡ barred (length st) op
+  step-number = go (barred (length st) op) (eqb (barred (length st) op) 0) refl
+    where
+      go : (n : ℕ) (e : Bool) → eqb n 0 ≡ e → cond e (does counts p op st) (refused n st) .number ≡ n
+      go n true q = does-accepts counts p op st ∙ sym (eqb-true n 0 q)
+      go n false q = refl
 
-  -- neither a refusal nor an operation that is not a check has a kind or a count
-  plain : (c : Bool) → _≡_ {A = ℕ} 0 (0 + cond c 0 0)
-  plain true = refl
-  plain false = refl
+  -- whether frames are counted or not, the stack after it is the same
+  does-state : (other : Bool) → does counts p op st .state ≡ does other p op st .state
+  unfolding does
+  does-state other = go op
+    where
+      go : (op : Operation) → does counts p op st .state ≡ does other p op st .state
+      go (Call g) = refl
+      go Return = refl
+      go (Enable t) = refl
+      go (Disable t) = refl
+      go (Revert t) = refl
+      go (Check t) = refl
 
-  refused-mirrors : (n : ℕ) (s : List ℕ) (st : List Frame) → Pictures s st → Mirrors (refuseIn n s) (refuse n st)
-  refused-mirrors n s st h = record { number = refl; byte = plain counts; pictures = h }
+  pub step-state : (other : Bool) → step counts p op st .state ≡ step other p op st .state
+  step-state other = go (eqb (barred (length st) op) 0)
+    where
+      go : (e : Bool) → cond e (does counts p op st) (refused (barred (length st) op) st) .state ≡ cond e (does other p op st)
+          (refused (barred (length st) op) st) .state
+      go true = does-state other
+      go false = refl
 
-  done-mirrors : (left : List ℕ) (st : List Frame) → Pictures left st → Mirrors (doneIn left) (done st)
-  done-mirrors left st h = record { number = refl; byte = plain counts; pictures = h }
+  pub step-refused : barred (length st) op ≢ 0 → step counts p op st ≡ refused (barred (length st) op) st
+  step-refused nz = rw (ne-eqb _ 0 nz)
 
-  -- each operation, of an engine whose depth is the stack's: by what it does to a state that pictures a stack
-  module _ (s : List ℕ) (depth : ℕ) (high : (st : List Frame) → Pictures s st → depth ≡ length st) where
-    -- 7
-    no-frame : (m : Moved) → Pictures s [] → Mirrors (framedIn depth m s) (refuse noFrame [])
-    no-frame m h = rw (eq-eqb depth 0 (high [] h)) (refused-mirrors noFrame s [] h)
+  pub step-does : barred (length st) op ≡ 0 → step counts p op st ≡ does counts p op st
+  step-does z = rw (eq-eqb _ 0 z)
 
-    a-frame : (m : Moved) (o : Outcome) (f : Frame) (r : List Frame) → Pictures s (f ∷ r) → Mirrors m o → Mirrors (framedIn depth m s) o
-    a-frame m o f r h k = let e : depth ≡ suc (length r) = high (f ∷ r) h in rw (ne-eqb depth 0 (omega arith)) k
+-- where 7 does not refuse there is a newest frame
+pub newest : (P : Stack → Type 0) (st : Stack) → framed (length st) ≡ 0 → ((f : Frame) (r : Stack) → P (f ∷ r)) → P st
+newest P [] z k = absurd (some-frame 0 z refl)
+newest P (f ∷ r) z k = k f r
 
-    -- 8
-    pub call-mirrors : (p : List ℕ) (g : ℕ) (more : List ℕ) → ((st : List Frame) → Pictures s st → length st < 63 → Pictures more (called p g st ∷ st))
-        → (st : List Frame) → Pictures s st → Mirrors (deeperIn depth more s) (step p (Call g) st)
-    unfolding step
-    call-mirrors p g more k st h = rw (high st h) (go (ltb (length st) 63) refl)
-      where
-        go : (e : Bool) → ltb (length st) 63 ≡ e → Mirrors (cond e (doneIn more) (refuseIn tooDeep s)) (cond e (done (called p g st ∷ st)) (refuse tooDeep st))
-        go true q = done-mirrors more (called p g st ∷ st) (k st h (ltb-true _ _ q))
-        go false q = refused-mirrors tooDeep s st h
+module _ (e : Engine) (p : Policy) where
+  -- what an engine's own definition gives mirrors what the definition's step gives, over what its state pictures
+  abbrev pub Mirrors : Moved (List ℕ) → Moved Stack → Type 0
+  Mirrors = Alike (e .Pictures p) (λ b. b)
 
-    pub return-mirrors : (left : List ℕ) → ((f : Frame) (r : List Frame) → Pictures s (f ∷ r) → Pictures left r)
-        → (st : List Frame) → Pictures s st → Mirrors (framedIn depth (doneIn left) s) (returned st)
-    return-mirrors left k [] h = no-frame (doneIn left) h
-    return-mirrors left k (f ∷ r) h = a-frame (doneIn left) (done r) f r h (done-mirrors left r (k f r h))
+  pub done-mirrors : {left : List ℕ} {st : Stack} → e .Pictures p left st → Mirrors (done left) (done st)
+  done-mirrors h = record { number = refl; byte = refl; states = h }
 
-    pub newest-mirrors : (left : List ℕ) (g : Frame → Frame) → ((f : Frame) (r : List Frame) → Pictures s (f ∷ r) → Pictures left (g f ∷ r))
-        → (st : List Frame) → Pictures s st → Mirrors (framedIn depth (doneIn left) s) (byNewest g st)
-    newest-mirrors left g k [] h = no-frame (doneIn left) h
-    newest-mirrors left g k (f ∷ r) h = a-frame (doneIn left) (done (g f ∷ r)) f r h (done-mirrors left (g f ∷ r) (k f r h))
+  -- 7 and 8 are the definition's, so an engine has only to say what an operation that they let through does
+  pub acts-mirror : (op : Operation) (s : List ℕ) (st : Stack) → e .Pictures p s st → e .depth s ≡ length st
+      → (barred (length st) op ≡ 0 → Mirrors (e .does p op s) (does (e .counts) p op st)) → Mirrors (acts e p op s) (step (e .counts) p op st)
+  acts-mirror op s st h d k = rw d (guarded-alike (e .Pictures p) (λ b. b) refl h (barred (length st) op) k)
 
-    pub check-mirrors : (p : List ℕ) (t : ℕ) (v : Bool) (looked : ℕ)
-        → ((f : Frame) (r : List Frame) → Pictures s (f ∷ r) → (v ≡ granted p t (f ∷ r)) × (looked ≡ cond counts (walk p t (map marked (f ∷ r)) .looked) 0))
-        → (st : List Frame) → Pictures s st → Mirrors (framedIn depth (verdictIn v looked s) s) (checked p t st)
-    check-mirrors p t v looked k [] h = no-frame (verdictIn v looked s) h
-    check-mirrors p t v looked k (f ∷ r) h =
-        a-frame (verdictIn v looked s) (checked p t (f ∷ r)) f r h (record { number = refl; byte = ap₂ verdictByte (k f r h .0) (k f r h .1); pictures = h })
+  module _ (s : List ℕ) where
+    -- so what is exactly given serves the belief sets
+    pub served-by : (op : Operation) (r : Answer) (left : List ℕ) → Gives r left (acts e p op s) → e .Pictures p (replicate (e .size) 0) []
+        → (valid p ≡ true → outsideOf p op ≡ 0 → (st : Stack) → e .Pictures p s st → Mirrors (acts e p op s) (step (e .counts) p op st))
+        → Serve e p s op r left
+    served-by op r left g b k = record {
+      gives = g;
+      begins = b;
+      serves = λ v i st h.
+          let m : Mirrors (acts e p op s) (step (e .counts) p op st) = k v i st h in
+          record { number = g .number ∙ m .number; byte = g .byte ∙ m .byte; pictures = rw (g .state) (m .states) };
+    }
 
-  -- so what is exactly given serves the belief sets
-  pub serves-by : (r : Answer) (left : List ℕ) (m : Moved) (o : Outcome) → Gives r left m → Mirrors m o → Serves Pictures counts r left o
-  serves-by r left m o g h = record { number = g .number ∙ h .number; byte = g .byte ∙ h .byte; pictures = rw (g .state) (h .pictures) }
+    -- each way out of an engine's `operate`: 13 or 14
+    module _ (w lent : ℕ) where
+      pub bad-state : (n : ℕ) → n ≡ refusalIn p (e .fits p s) → n ≢ 0 → Operate e p s w lent n lent s
+      unfolding worded
+      bad-state n q nz = record {
+        exact = rw (← q, ne-eqb n 0 nz) (record { number = refl; answer = rw (ne-eqb n 0 nz); state = refl });
+        answers = λ v f. absurd (nz (q ∙ not-refused-with p (e .fits p s) v f));
+      }
 
--- an answer with its number and byte, and the words left, are what an engine's own definition gives
-pub gives : {r : Answer} {left : List ℕ} {m : Moved} → r ≡ record { number = m .number; byte = m .byte } → left ≡ m .state → Gives r left m
-gives a e = record { number = ap (λ (x : Answer). x .number) a; byte = ap (λ (x : Answer). x .byte) a; state = e }
+      module _ (ok : refusalIn p (e .fits p s) ≡ 0) (d : Decoded) (read : d ≡ reading p w 0) where
+        -- 4, 3, 5 or 6
+        pub bad-word : (n : ℕ) → d ≡ Refused n → Operate e p s w lent n lent s
+        unfolding worded
+        bad-word n q =
+            let told : reading p w 0 ≡ Refused n = sym read ∙ q in
+            let nz : n ≢ 0 = rw told at (decoded-fair (signers p) (targets p) w 0) in
+            record {
+              exact = rw (eq-eqb _ _ ok, told) (record { number = refl; answer = rw (ne-eqb n 0 nz); state = refl });
+              answers = λ _ _ st h. rw told (record { number = refl; answer = rw (ne-eqb n 0 nz); pictures = h });
+            }
 
--- each way out of an engine's `operate`
-module _ (Pictures : List ℕ → List Frame → Type 0) (counts fits : Bool) (act : Operation → Moved) (p s : List ℕ) (w lent : ℕ) where
-  -- 13
-  pub bad-policy : valid p ≡ false → Operate Pictures counts fits act p s w 13 lent lent s
-  unfolding guarded
-  bad-policy e = record { exact = rw e (record { number = refl; answer = refl; state = refl }); answers = λ v. never (sym v ∙ e) }
+        -- 7, 8, or the answer
+        pub done-word : (x : Held) → d ≡ Word x → (r : Answer) (left : List ℕ) → Serve e p s (x .op) r left
+            → (byte : ℕ) → byte ≡ cond (eqb (r .number) 0) (r .byte) lent → Operate e p s w lent (r .number) byte left
+        unfolding worded
+        done-word x q r left h byte b =
+            let told : reading p w 0 ≡ Word x = sym read ∙ q in
+            let i : outsideOf p (x .op) ≡ 0 = rw told at (decoded-fair (signers p) (targets p) w 0) in
+            let v : valid p ≡ true = let-in-with p (e .fits p s) ok .0 in
+            record {
+              exact = rw (eq-eqb _ _ ok, told) (record {
+                number = h .gives .number;
+                answer = b ∙ written (h .gives .number) (h .gives .byte);
+                state = h .gives .state;
+              });
+              answers = λ _ _ st k. rw told (answered (h .serves v i st k));
+            }
+          where
+            written : {m n y z : ℕ} → m ≡ n → y ≡ z → cond (eqb m 0) y lent ≡ cond (eqb n 0) z lent
+            written a c = cc
 
-  module _ (v : valid p ≡ true) where
-    -- 14
-    pub bad-state : fits ≡ false → Operate Pictures counts fits act p s w 14 lent lent s
-    unfolding guarded
-    bad-state e = record { exact = rw (v, e) (record { number = refl; answer = refl; state = refl }); answers = λ _ f. never (sym f ∙ e) }
+            answered : {m : Moved Stack} → Serves e p r left m → Answers e p lent (r .number) byte left m
+            answered k = record { number = k .number; answer = b ∙ written (k .number) (k .byte); pictures = k .pictures }
 
-    module _ (f : fits ≡ true) (d : Decoded) (e : d ≡ decoded (signers p) (targets p) w 0) where
-      -- 4, 3, 5 or 6
-      pub bad-word : (n : ℕ) → d ≡ Refused n → Operate Pictures counts fits act p s w n lent lent s
-      unfolding guarded
-      bad-word n q =
-          let told : decoded (signers p) (targets p) w 0 ≡ Refused n = sym e ∙ q in
-          let nz : n ≢ 0 = rw told at (decoded-fair p w 0) in
-          record {
-            exact = rw (v, f, told) (record { number = refl; answer = rw (ne-eqb n 0 nz); state = refl });
-            answers = λ _ _ st h. rw told (record { number = refl; answer = rw (ne-eqb n 0 nz); pictures = h });
-          }
-
-      -- 7, 8, or the answer
-      pub done-word : (x : Held) → d ≡ Word x → (r : Answer) (left : List ℕ) (size : ℕ) → Serve Pictures counts size p s (x .op) r left (act (x .op))
-          → (byte : ℕ) → byte ≡ cond (eqb (r .number) 0) (r .byte) lent → Operate Pictures counts fits act p s w (r .number) lent byte left
-      unfolding guarded
-      done-word x q r left size h byte b =
-          let told : decoded (signers p) (targets p) w 0 ≡ Word x = sym e ∙ q in
-          let i : inside p (x .op) ≡ true = rw told at (decoded-fair p w 0) in
-          record {
-            exact = rw (v, f, told) (record { number = h .gives .number; answer = b ∙ written (h .gives .number) (h .gives .byte); state = h .gives .state });
-            answers = λ _ _ st k. rw told (answered (h .serves v i st k));
-          }
-        where
-          written : {m n y z : ℕ} → m ≡ n → y ≡ z → cond (eqb m 0) y lent ≡ cond (eqb n 0) z lent
-          written a c = cc
-
-          answered : {o : Outcome} → Serves Pictures counts r left o → Answers Pictures counts (r .number) lent byte left o
-          answered k = record { number = k .number; answer = b ∙ written (k .number) (k .byte); pictures = k .pictures }
-
--- an operation on a state that number 14 lets through leaves one that it lets through, of an engine whose states picture some stack exactly then
-pub operate-stays : (Pictures : List ℕ → List Frame → Type 0) (counts : Bool) (fits : List ℕ → Bool) → ((s : List ℕ) (st : List Frame) → Pictures s st → fits s ≡ true)
-    → (act : Operation → Moved) (p s : List ℕ) → (valid p ≡ true → (st : List Frame) × Pictures s st)
-    → (w n lent byte : ℕ) (left : List ℕ) → Operate Pictures counts (fits s) act p s w n lent byte left → fits s ≡ true → fits left ≡ true
-unfolding guarded
-operate-stays Pictures counts fits fitting act p s some w n lent byte left h here = go (valid p) refl
-  where
-    go : (e : Bool) → valid p ≡ e → fits left ≡ true
-    go true q = let pictured = some q in fitting left _ (h .answers q here (pictured .0) (pictured .1) .pictures)
-    go false q = rw (rw q at (h .exact .state)) here
+  -- an operation on a state that number 14 lets through leaves one that it lets through, of an engine whose states picture some stack exactly then
+  pub operate-stays : ((s : List ℕ) (st : Stack) → e .Pictures p s st → e .fits p s ≡ true)
+      → (s : List ℕ) → (valid p ≡ true → (st : Stack) × e .Pictures p s st)
+      → (w lent n byte : ℕ) (left : List ℕ) → Operate e p s w lent n byte left → e .fits p s ≡ true → e .fits p left ≡ true
+  unfolding worded
+  operate-stays fitting s some w lent n byte left h here = go (eqb (refusalIn p (e .fits p s)) 0) refl
+    where
+      go : (b : Bool) → eqb (refusalIn p (e .fits p s)) 0 ≡ b → e .fits p left ≡ true
+      go true q =
+          let v : valid p ≡ true = let-in-with p (e .fits p s) (eqb-true _ 0 q) .0 in
+          let pictured = some v in
+          fitting left _ (h .answers v here (pictured .0) (pictured .1) .pictures)
+      go false q = rw (rw q at (h .exact .state)) here

@@ -58,17 +58,20 @@ at-target d g t x = go (eqb g t) refl
     go true q = ap (λ (y : ℕ). not (d y) && x) (eqb-true g t q)
     go false q = and-false (not (d g)) ∙ sym (and-false (not (d t)))
 
-pub any-not : (d : ℕ → Bool) (t : ℕ) (x : Belief → Bool) (bs : List Belief) → any (λ b. on t b && x b) (keep (λ b. not (d (b .target))) bs) ≡ (not (d t) && any (λ b. on t b && x b) bs)
+pub any-not : (d : ℕ → Bool) (t : ℕ) (x : Belief → Bool) (bs : List Belief)
+    → any (λ b. on t b && x b) (keep (λ b. not (d (b .target))) bs) ≡ (not (d t) && any (λ b. on t b && x b) bs)
 any-not d t x bs =
     any-keep (λ b. on t b && x b) (λ b. not (d (b .target))) bs
     ∙ any-ext (λ b. not (d (b .target)) && (on t b && x b)) (λ b. not (d t) && (on t b && x b)) (λ b. at-target d (b .target) t (x b)) bs
     ∙ any-and (not (d t)) (λ b. on t b && x b) bs
 
-pub any-off : (u t : ℕ) (x : Belief → Bool) (bs : List Belief) → any (λ b. on t b && x b) (keep (λ b. not (on u b)) bs) ≡ (not (eqb u t) && any (λ b. on t b && x b) bs)
+pub any-off : (u t : ℕ) (x : Belief → Bool) (bs : List Belief)
+    → any (λ b. on t b && x b) (keep (λ b. not (on u b)) bs) ≡ (not (eqb u t) && any (λ b. on t b && x b) bs)
 any-off u t x bs = rw (eqb-comm u t) (any-not (λ g. eqb g u) t x bs)
 
 own-off : (g u t : ℕ) (n : Bool) → (not (eqb g u && n) && (eqb g t && n)) ≡ (not (eqb u t) && (eqb g t && n))
-own-off g u t true = ap (λ (x : Bool). not x && (eqb g t && true)) (and-true (eqb g u)) ∙ at-target (λ n. eqb n u) g t true ∙ ap (λ (x : Bool). not x && (eqb g t && true)) (eqb-comm t u)
+own-off g u t true = ap (λ (x : Bool). not x && (eqb g t && true)) (and-true (eqb g u)) ∙ at-target (λ n. eqb n u) g t true
+    ∙ ap (λ (x : Bool). not x && (eqb g t && true)) (eqb-comm t u)
 own-off g u t false =
     ap (λ (x : Bool). not (eqb g u && false) && x) (and-false (eqb g t)) ∙ and-false (not (eqb g u && false))
     ∙ sym (ap (λ (x : Bool). not (eqb u t) && x) (and-false (eqb g t)) ∙ and-false (not (eqb u t)))
@@ -109,7 +112,8 @@ module _ (u t : ℕ) (f : Frame) where
     unfolding revert
     inherited-revert =
         any-keep (inherited p t) (λ b. not (own u b)) (f .beliefs)
-        ∙ any-ext (λ b. not (own u b) && inherited p t b) (inherited p t) (λ b. stays (on u b) (on t b) (empty (b .chain)) (all (permitted p t) (b .chain))) (f .beliefs)
+        ∙ any-ext (λ b. not (own u b) && inherited p t b) (inherited p t) (λ b. stays (on u b) (on t b) (empty (b .chain)) (all (permitted p t) (b .chain)))
+        (f .beliefs)
 
 -- call: what a start hands over is owned, and what a caller hands down is inherited
 pub ltb-step : (t n : ℕ) → (eqb n t || ltb t n) ≡ ltb t (suc n)

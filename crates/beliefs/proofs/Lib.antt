@@ -1,9 +1,7 @@
-pub mod Unique
 pub mod Lists
 pub mod Policy
 pub mod Granted
-pub mod Refusals
-pub mod Words
+pub mod Runs
 pub mod Engine
 pub mod Chosen
 pub mod Counts

@@ -133,7 +133,8 @@ zeros (suc n) (suc i) = zeros n i
 pub put-next : (l : List ℕ) (at i v : ℕ) (vs ws : List ℕ) → ws ≡ v ∷ vs → sets (set l (at + i) v) (at + (i + 1)) vs ≡ sets l (at + i) ws
 put-next l at i v vs ws e = let up : at + (i + 1) ≡ suc (at + i) = omega arith in rw (e, up)
 
-pub put-turn : (l text : List ℕ) (at i : ℕ) → i < length text → sets (set l (at + i) (getD text i 0)) (at + (i + 1)) (drop (i + 1) text) ≡ sets l (at + i) (drop i text)
+pub put-turn : (l text : List ℕ) (at i : ℕ) → i < length text
+    → sets (set l (at + i) (getD text i 0)) (at + (i + 1)) (drop (i + 1) text) ≡ sets l (at + i) (drop i text)
 put-turn l text at i h = put-next l at i (getD text i 0) (drop (i + 1) text) (drop i text) (rw add-one (drop-cons text i 0 h))
 
 pub put-end : (l text : List ℕ) (at i : ℕ) → length text ≤ i → sets l (at + i) (drop i text) ≡ l

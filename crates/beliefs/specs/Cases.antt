@@ -3,21 +3,21 @@ use mathlib.Core.Path.{_≡_, refl}
 use mathlib.Core.Bool.{true, cond}
 use mathlib.Core.Option.{Option·elim}
 use mathlib.Core.List.{List, [], _∷_, map}
-use Prim.Native.Nat.{ℕ, _+_, _*_}
+use Prim.Native.Nat.{ℕ}
 use lib.Dec.{eqb}
 use lib.ListN.{replicate}
 use Rattle.bits.specs.Bit.{bit, withBit, withoutBit, below, lowest}
+use Rattle.answers.specs.Answer.{verdictByte}
+use Rattle.answers.specs.Account.{Account, told}
+use Rattle.words.specs.declared.Operation.{Operation}
+use Rattle.words.specs.declared.Operation.the-variants.{Call, Return, Enable, Disable, Revert, Check}
+use Rattle.words.specs.Words.{operationOf, strayIn, outside, barred, decoded, wordOf}
 use Rattle.beliefs.specs.declared.Marked.{Marked}
 use Rattle.beliefs.specs.declared.Seen.{Seen}
-use Rattle.beliefs.specs.declared.Operation.{Operation}
-use Rattle.beliefs.specs.declared.Operation.the-variants.{Call, Return, Enable, Disable, Revert, Check}
 use Rattle.beliefs.specs.Lists.{each}
-use Rattle.beliefs.specs.Account.{Account, told}
-use Rattle.beliefs.specs.Policy.{permits, rowFits, valid, mirrored, rowOf, rowsOf, readNumber, valueRead, writing}
+use Rattle.beliefs.specs.Policy.{permits, rowFits, valid, refusal, mirrored, rowOf, rowsOf, readNumber, valueRead, writing}
 use Rattle.beliefs.specs.Stack.{marked, called, enable, disable, revert, granted, walk}
-use Rattle.beliefs.specs.Words.{operationOf, strayIn, outsideOf, decoded}
-use Rattle.beliefs.specs.Trace.{step, runFrom, stackAfter, run}
-use Rattle.beliefs.specs.Engine.{verdictByte}
+use Rattle.beliefs.specs.Trace.{does, step, runFrom, stateAfter, runRefusal, run}
 use Rattle.beliefs.specs.Derivation.{mayTake, follow, judge, judged, ours, derived}
 
 -- the bytes of a policy, those of a trace, and what is asked: the trace's answers, the walk's own answer byte for a target where the
@@ -40,9 +40,10 @@ given bytes n = record { number = 0; figure = n; written = bytes }
 -- what the definitions give under a policy, with room for 256 bytes
 abbrev under : List ℕ → List ℕ → Asked → Account
 under p trace answers = run true p trace 256
-under p trace (walked t) = let seen : Seen = walk p t (map marked (stackAfter p trace [])) in given (verdictByte (seen .granted) (seen .looked) ∷ []) 1
-under p trace (derivation t) = derived p (map marked (stackAfter p trace [])) t 256
-under p trace (acceptance t steps) = judged p (map marked (stackAfter p trace [])) t steps
+under p trace (walked t) =
+    let seen : Seen = walk p t (map marked (stateAfter (step true) p trace [])) in given (verdictByte (seen .granted) (seen .looked) ∷ []) 1
+under p trace (derivation t) = derived p (map marked (stateAfter (step true) p trace [])) t 256
+under p trace (acceptance t steps) = judged p (map marked (stateAfter (step true) p trace [])) t steps
 
 -- from the policy's bytes, which are read or refused
 abbrev found : List ℕ → List ℕ → Asked → Account
@@ -63,7 +64,7 @@ policy-says = refl
 abbrev operations : List ℕ → List Operation
 operations [] = []
 operations (a ∷ []) = []
-operations (a ∷ b ∷ rest) = operationOf (256 * a + b) ∷ operations rest
+operations (a ∷ b ∷ rest) = operationOf (wordOf a b) ∷ operations rest
 
 pub A-says : operations A ≡ (Call 0 ∷ Enable 0 ∷ Call 1 ∷ Check 0 ∷ Check 1 ∷ Disable 0 ∷ Check 0 ∷ Revert 0 ∷ Check 0 ∷ Return ∷ Check 0 ∷ [])
 unfolding operationOf
@@ -73,10 +74,16 @@ A-says = refl
 abbrev A3 : List ℕ
 A3 = 0x00 ∷ 0x00 ∷ 0x40 ∷ 0x00 ∷ 0x01 ∷ 0x00 ∷ []
 
--- P1 to P10; after P5 a drop where T is not the last entry; and after P7 the checks of P6 and P7 by the walk alone, since an answer byte has its verdict from the belief sets, and only its count from the walk.
+-- P1 to P10; after P5 a drop where T is not the last entry; and after P7 the checks of P6 and P7 by the walk alone, since an answer byte has its verdict
+-- from the belief sets, and only its count from the walk.
 abbrev pub cases : List Case
 cases =
-    record { policy = policy 0x08; trace = A; asked = answers; expected = given (0x00 ∷ 0x00 ∷ 0x00 ∷ 0x42 ∷ 0x81 ∷ 0x00 ∷ 0x81 ∷ 0x00 ∷ 0x81 ∷ 0x00 ∷ 0x41 ∷ []) 11 }
+    record {
+      policy = policy 0x08;
+      trace = A;
+      asked = answers;
+      expected = given (0x00 ∷ 0x00 ∷ 0x00 ∷ 0x42 ∷ 0x81 ∷ 0x00 ∷ 0x81 ∷ 0x00 ∷ 0x81 ∷ 0x00 ∷ 0x41 ∷ []) 11;
+    }
     ∷ record { policy = policy 0x08; trace = A3; asked = derivation 0; expected = given (0x02 ∷ 0x40 ∷ 0x41 ∷ 0x80 ∷ 0x81 ∷ 0xC0 ∷ 0xC0 ∷ []) 7 }
     ∷ record { policy = policy 0x08; trace = A3; asked = acceptance 0 (0x02 ∷ 0x40 ∷ 0x41 ∷ 0x80 ∷ 0x81 ∷ 0xC0 ∷ 0xC0 ∷ []); expected = told 0 7 }
     ∷ record { policy = policy 0x08; trace = A3; asked = acceptance 0 (0x02 ∷ 0x40 ∷ 0x41 ∷ 0x80 ∷ 0x81 ∷ 0xC0 ∷ []); expected = told 11 0 }
@@ -84,20 +91,32 @@ cases =
     ∷ record { policy = policy 0x08; trace = A3; asked = acceptance 0 (0x03 ∷ []); expected = told 10 0 }
     ∷ record { policy = policy 0x08; trace = A3; asked = acceptance 0 (0x02 ∷ 0x40 ∷ 0x80 ∷ 0xC0 ∷ []); expected = told 10 3 }
     ∷ record { policy = policy 0x08; trace = 0x02 ∷ 0x00 ∷ 0x40 ∷ 0x00 ∷ 0xA0 ∷ 0x00 ∷ []; asked = answers; expected = given (0x00 ∷ 0x00 ∷ 0x81 ∷ []) 3 }
-    ∷ record { policy = policy 0x08; trace = 0x00 ∷ 0x00 ∷ 0x60 ∷ 0x00 ∷ 0x40 ∷ 0x00 ∷ 0xA0 ∷ 0x00 ∷ 0x80 ∷ 0x00 ∷ 0xA0 ∷ 0x00 ∷ []; asked = answers; expected = given (0x00 ∷ 0x00 ∷ 0x00 ∷ 0x41 ∷ 0x00 ∷ 0x81 ∷ []) 6 }
+    ∷ record {
+      policy = policy 0x08;
+      trace = 0x00 ∷ 0x00 ∷ 0x60 ∷ 0x00 ∷ 0x40 ∷ 0x00 ∷ 0xA0 ∷ 0x00 ∷ 0x80 ∷ 0x00 ∷ 0xA0 ∷ 0x00 ∷ [];
+      asked = answers;
+      expected = given (0x00 ∷ 0x00 ∷ 0x00 ∷ 0x41 ∷ 0x00 ∷ 0x81 ∷ []) 6;
+    }
     ∷ record { policy = policy 0x08; trace = 0x02 ∷ 0x00 ∷ 0x40 ∷ 0x00 ∷ []; asked = walked 0; expected = given (0x81 ∷ []) 1 }
     ∷ record { policy = policy 0x08; trace = 0x00 ∷ 0x00 ∷ 0x60 ∷ 0x00 ∷ 0x40 ∷ 0x00 ∷ []; asked = walked 0; expected = given (0x41 ∷ []) 1 }
     ∷ record { policy = policy 0x08; trace = 0x00 ∷ 0x00 ∷ 0x60 ∷ 0x00 ∷ 0x40 ∷ 0x00 ∷ 0x80 ∷ 0x00 ∷ []; asked = walked 0; expected = given (0x81 ∷ []) 1 }
-    ∷ record { policy = policy 0x88; trace = 0x00 ∷ 0x00 ∷ 0xA0 ∷ 0x04 ∷ 0x80 ∷ 0x04 ∷ 0xA0 ∷ 0x04 ∷ []; asked = answers; expected = given (0x00 ∷ 0x41 ∷ 0x00 ∷ 0x81 ∷ []) 4 }
+    ∷ record {
+      policy = policy 0x88;
+      trace = 0x00 ∷ 0x00 ∷ 0xA0 ∷ 0x04 ∷ 0x80 ∷ 0x04 ∷ 0xA0 ∷ 0x04 ∷ [];
+      asked = answers;
+      expected = given (0x00 ∷ 0x41 ∷ 0x00 ∷ 0x81 ∷ []) 4;
+    }
     ∷ record { policy = policy 0x08; trace = 0x00 ∷ 0x00 ∷ 0xA0 ∷ 0x00 ∷ []; asked = answers; expected = given (0x00 ∷ 0x81 ∷ []) 2 }
     ∷ record { policy = policy 0x08; trace = 0x20 ∷ 0x00 ∷ []; asked = answers; expected = told 7 0 }
     ∷ []
 
 pub proved : map (λ (c : Case). found (c .policy) (c .trace) (c .asked)) cases ≡ map (λ (c : Case). c .expected) cases
-unfolding run runFrom stackAfter step called enable disable revert granted walk decoded operationOf strayIn outsideOf permits valid rowFits each mirrored rowOf rowsOf readNumber valueRead bit withBit withoutBit below lowest derived ours judged judge follow mayTake Option·elim
+unfolding run runRefusal runFrom stateAfter does called enable disable revert granted walk decoded operationOf strayIn outside barred permits refusal valid
+    rowFits each mirrored rowOf rowsOf readNumber valueRead bit withBit withoutBit below lowest derived ours judged judge follow mayTake Option·elim
 proved = refl
 
--- the orders of refusal. Reading a policy: a header spare bit before too few and before left over, too few and left over before padding; then padding alone, and none
+-- the orders of refusal. Reading a policy: a header spare bit before too few and before left over, too few and left over before padding; then padding
+-- alone, and none
 pub read-in-order : map readNumber (
     (0x08 ∷ []) ∷ (0x08 ∷ 0x11 ∷ []) ∷ (0x08 ∷ 0x11 ∷ 0xC0 ∷ 0x80 ∷ 0x00 ∷ 0x00 ∷ [])
     ∷ (0x08 ∷ 0x10 ∷ 0xA0 ∷ 0x80 ∷ []) ∷ (0x08 ∷ 0x10 ∷ 0xA0 ∷ 0x80 ∷ 0x00 ∷ 0x00 ∷ []) ∷ (0x08 ∷ 0x10 ∷ 0xA0 ∷ 0x80 ∷ 0x00 ∷ []) ∷ policy 0x08 ∷ []
@@ -114,15 +133,17 @@ abbrev value : List ℕ
 value = valueRead (policy 0x08)
 
 abbrev frames : List ℕ → List Marked
-frames trace = map marked (stackAfter value trace [])
+frames trace = map marked (stateAfter (step true) value trace [])
 
 pub refused-in-order : map (λ (a : Account). a .number) (
     writing unfit 0 ∷ writing value 4
     ∷ run true unfit (0x00 ∷ []) 0 ∷ run true value (0x00 ∷ 0x00 ∷ 0x00 ∷ []) 0 ∷ run true value (0xC0 ∷ 0x00 ∷ []) 0
     ∷ derived value [] 2 0 ∷ derived value [] 1 0 ∷ derived value (frames (0x00 ∷ 0x00 ∷ [])) 0 0 ∷ derived value (frames A3) 0 6
-    ∷ judged value [] 2 (0x00 ∷ []) ∷ judged value [] 1 (0x00 ∷ []) ∷ judged value (frames A3) 0 (0x02 ∷ 0x40 ∷ 0x40 ∷ []) ∷ judged value (frames A3) 0 (0x02 ∷ 0x40 ∷ [])
+    ∷ judged value [] 2 (0x00 ∷ []) ∷ judged value [] 1 (0x00 ∷ []) ∷ judged value (frames A3) 0 (0x02 ∷ 0x40 ∷ 0x40 ∷ []) ∷ judged value (frames A3) 0
+    (0x02 ∷ 0x40 ∷ [])
     ∷ []
     )
     ≡ (13 ∷ 9 ∷ 13 ∷ 1 ∷ 9 ∷ 6 ∷ 7 ∷ 12 ∷ 9 ∷ 6 ∷ 7 ∷ 10 ∷ 11 ∷ [])
-unfolding run runFrom stackAfter step called enable disable revert granted walk decoded operationOf strayIn outsideOf permits valid rowFits each mirrored rowOf rowsOf valueRead writing bit withBit withoutBit below lowest derived ours judged judge follow mayTake Option·elim
+unfolding run runRefusal runFrom stateAfter does called enable disable revert granted walk decoded operationOf strayIn outside barred permits refusal valid
+    rowFits each mirrored rowOf rowsOf valueRead writing bit withBit withoutBit below lowest derived ours judged judge follow mayTake Option·elim
 refused-in-order = refl

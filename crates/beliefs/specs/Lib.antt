@@ -1,10 +1,7 @@
--- Document 01 as definitions, in its order: byte forms, belief sets and what moves them, traces, derivations, numbers for no.
-pub mod Numbers
+-- Document 01 as definitions, in its order: the policy, belief sets and what moves them, traces, what an engine promises, derivations, cases.
 pub mod Lists
-pub mod Account
 pub mod Policy
 pub mod Stack
-pub mod Words
 pub mod Trace
 pub mod Engine
 pub mod Derivation

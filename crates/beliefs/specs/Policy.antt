@@ -1,40 +1,68 @@
--- "Byte forms", the policy: as a value of 35 words (start, S, N, 32 rows) and as bytes.
+-- "Byte forms", the policy: as a value of 35 words (start, S, N, 32 rows) and as bytes; and what refuses it and what is asked under it.
 use mathlib.Core.Bool.{Bool, cond, _&&_}
 use mathlib.Core.List.{List, [], _∷_, _++_}
 use Prim.Native.Nat.{ℕ, zero, suc, _+_, _-_, _*_, _/_, _%_, _^_}
 use lib.Dec.{eqb, ltb, leb}
 use lib.ListN.{length, getD, take, drop, replicate}
 use Rattle.bits.specs.Bit.{bit, below}
+use Rattle.answers.specs.Numbers.{tooFew, leftOver, bitSet, badPolicy, badState, unless, first}
+use Rattle.answers.specs.Account.{Account, shortOf, barring}
+use Rattle.words.specs.declared.Operation.{Operation}
+use Rattle.words.specs.declared.Decoded.{Decoded}
+use Rattle.words.specs.Words.{outside, barred, decoded}
 use Rattle.beliefs.specs.Lists.{all, each}
-use Rattle.beliefs.specs.Numbers.{tooFew, leftOver, bitSet, noRoom, badPolicy}
-use Rattle.beliefs.specs.Account.{Account, told}
+
+abbrev pub Policy : Type 0
+Policy = List ℕ
+
+abbrev pub Target : Type 0
+Target = ℕ
 
 -- 0 empty, 1 full
-abbrev pub start : List ℕ → ℕ
+abbrev pub start : Policy → ℕ
 start p = getD p 0 0
 
-abbrev pub signers : List ℕ → ℕ
+abbrev pub signers : Policy → ℕ
 signers p = getD p 1 0
 
-abbrev pub targets : List ℕ → ℕ
+abbrev pub targets : Policy → ℕ
 targets p = getD p 2 0
 
-abbrev pub row : List ℕ → ℕ → ℕ
+abbrev pub row : Policy → ℕ → ℕ
 row p s = getD p (3 + s) 0
 
 -- a set bit permits that signer that target
-unfoldable pub permits : List ℕ → ℕ → ℕ → Bool
+unfoldable pub permits : Policy → ℕ → Target → Bool
 permits p s t = bit (row p s) t
 
 -- number 13: S or N outside its range, or a bit set outside the S rows and N targets; a start that is neither
 abbrev pub within : ℕ → ℕ → Bool
 within n most = leb 1 n && leb n most
 
-unfoldable pub rowFits : List ℕ → ℕ → Bool
+unfoldable pub rowFits : Policy → ℕ → Bool
 rowFits p s = cond (ltb s (signers p)) (below (row p s) (targets p)) (eqb (row p s) 0)
 
-unfoldable pub valid : List ℕ → Bool
+unfoldable pub valid : Policy → Bool
 valid p = leb (start p) 1 && (within (signers p) 32 && (within (targets p) 64 && each (rowFits p) 32))
+
+-- the front door. What refuses a policy: 13
+unfoldable pub refusal : Policy → ℕ
+refusal p = unless (valid p) badPolicy
+
+-- a state under it, which number 14 lets through or not: 13, 14
+abbrev pub refusalIn : Policy → Bool → ℕ
+refusalIn p fits = first (refusal p) (unless fits badState)
+
+-- an operation of any signer or target in a state of so many frames: 13, 14, 5 or 6, 7, 8
+abbrev pub outsideOf : Policy → Operation → ℕ
+outsideOf p op = outside (signers p) (targets p) op
+
+abbrev pub refusalOf : Policy → Bool → ℕ → Operation → ℕ
+refusalOf p fits depth op = first (refusalIn p fits) (first (outsideOf p op) (barred depth op))
+
+-- and a word of a trace, with its index: 4, 3, 5 or 6, else the operation
+abbrev pub reading : Policy → ℕ → ℕ → Decoded
+reading p w i = decoded (signers p) (targets p) w i
 
 -- a row of n targets, in whole bytes
 abbrev pub width : ℕ → ℕ
@@ -78,7 +106,7 @@ headTargets h = h / 2 ^ 4 % 2 ^ 6 + 1
 abbrev pub headSpare : ℕ → ℕ
 headSpare h = h % 2 ^ 4
 
-abbrev pub headed : List ℕ → ℕ
+abbrev pub headed : Policy → ℕ
 headed p = start p * 2 ^ 15 + (signers p - 1) * 2 ^ 10 + (targets p - 1) * 2 ^ 4
 
 -- how many bytes a policy of s signers and n targets has
@@ -98,19 +126,17 @@ readNumber bs =
     (cond (all (λ w. below w (headTargets (header bs))) (rowsRead bs)) 0 bitSet)))
     bitSet)
 
-unfoldable pub valueRead : List ℕ → List ℕ
+unfoldable pub valueRead : List ℕ → Policy
 valueRead bs =
     headStart (header bs) ∷ headSigners (header bs) ∷ headTargets (header bs)
     ∷ (rowsRead bs ++ replicate (32 - headSigners (header bs)) 0)
 
 -- writing: the one byte form
-unfoldable pub bytesWritten : List ℕ → List ℕ
+unfoldable pub bytesWritten : Policy → List ℕ
 bytesWritten p = headed p / 256 ∷ headed p % 256 ∷ rowsBytes (width (targets p)) (take (signers p) (drop 3 p))
 
 -- into room for so many bytes: 13, 9
-unfoldable pub writing : List ℕ → ℕ → Account
+unfoldable pub writing : Policy → ℕ → Account
 writing p room =
-    cond (valid p)
-    (cond (ltb room (size (signers p) (targets p))) (told noRoom 0)
-    (record { number = 0; figure = size (signers p) (targets p); written = bytesWritten p }))
-    (told badPolicy 0)
+    let wanted : ℕ = size (signers p) (targets p) in
+    barring (first (refusal p) (shortOf wanted room)) (record { number = 0; figure = wanted; written = bytesWritten p })

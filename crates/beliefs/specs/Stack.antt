@@ -7,7 +7,7 @@ use Rattle.bits.specs.Bit.{bit, withBit, withoutBit, lowest}
 use Rattle.beliefs.specs.declared.Marked.{Marked}
 use Rattle.beliefs.specs.declared.Seen.{Seen}
 use Rattle.beliefs.specs.Lists.{any, all, keep, empty}
-use Rattle.beliefs.specs.Policy.{start, targets, permits}
+use Rattle.beliefs.specs.Policy.{Policy, Target, start, targets, permits}
 
 -- a frame is a principal: its place, 1 at the bottom, is its name, and it speaks for the signer of its code
 pub record Principal : Type 0 where
@@ -17,7 +17,7 @@ pub record Principal : Type 0 where
 -- a belief: a chain of frames saying Ok(T), possibly an empty chain
 pub record Belief : Type 0 where
   pub chain : List Principal
-  pub target : ℕ
+  pub target : Target
 
 -- a frame with its belief set; its marks, a bit for each target, serve the count of frames looked at
 pub record Frame : Type 0 where
@@ -26,15 +26,19 @@ pub record Frame : Type 0 where
   pub enabled : ℕ
   pub disabled : ℕ
 
+-- newest first
+abbrev pub Stack : Type 0
+Stack = List Frame
+
 -- Ok(T) itself, with the empty chain
-abbrev pub ok : ℕ → Belief
+abbrev pub ok : Target → Belief
 ok t = record { chain = []; target = t }
 
 -- a belief that mentions Ok(T); Ok(T) itself
-abbrev pub on : ℕ → Belief → Bool
+abbrev pub on : Target → Belief → Bool
 on t b = eqb (b .target) t
 
-abbrev pub own : ℕ → Belief → Bool
+abbrev pub own : Target → Belief → Bool
 own t b = on t b && empty (b .chain)
 
 -- with a frame's name put in front
@@ -47,17 +51,17 @@ oks zero = []
 oks (suc n) = ok n ∷ oks n
 
 -- what a start hands a bottom frame: nothing under an empty start, Ok(T) for each of the N targets under a full one
-abbrev pub full : List ℕ → Bool
+abbrev pub full : Policy → Bool
 full p = eqb (start p) 1
 
-abbrev pub startBeliefs : List ℕ → List Belief
+abbrev pub startBeliefs : Policy → List Belief
 startBeliefs p = cond (full p) (oks (targets p)) []
 
-abbrev pub startMarks : List ℕ → ℕ
+abbrev pub startMarks : Policy → ℕ
 startMarks p = cond (full p) (lowest (targets p)) 0
 
 -- call: a bottom frame at depth 0; deeper, every belief of the caller with the caller's name put in front
-unfoldable pub called : List ℕ → ℕ → List Frame → Frame
+unfoldable pub called : Policy → ℕ → Stack → Frame
 called p s [] = record { principal = record { place = 1; signer = s }; beliefs = startBeliefs p; enabled = startMarks p; disabled = 0 }
 called p s (f ∷ r) = record {
   principal = record { place = suc (f .principal .place); signer = s };
@@ -67,11 +71,11 @@ called p s (f ∷ r) = record {
 }
 
 -- enable adds Ok(T), whether or not the policy permits the signer
-unfoldable pub enable : ℕ → Frame → Frame
+unfoldable pub enable : Target → Frame → Frame
 enable t f = record { principal = f .principal; beliefs = ok t ∷ f .beliefs; enabled = withBit (f .enabled) t; disabled = f .disabled }
 
 -- disable removes every belief that mentions Ok(T)
-unfoldable pub disable : ℕ → Frame → Frame
+unfoldable pub disable : Target → Frame → Frame
 disable t f = record {
   principal = f .principal;
   beliefs = keep (λ b. not (on t b)) (f .beliefs);
@@ -80,7 +84,7 @@ disable t f = record {
 }
 
 -- revert removes only Ok(T) itself, and leaves the disabled mark
-unfoldable pub revert : ℕ → Frame → Frame
+unfoldable pub revert : Target → Frame → Frame
 revert t f = record {
   principal = f .principal;
   beliefs = keep (λ b. not (own t b)) (f .beliefs);
@@ -89,11 +93,11 @@ revert t f = record {
 }
 
 -- a frame whose signer is permitted T
-abbrev pub permitted : List ℕ → ℕ → Principal → Bool
+abbrev pub permitted : Policy → Target → Principal → Bool
 permitted p t x = permits p (x .signer) t
 
 -- check: some belief of the newest frame on T, where every frame of it followed by the chain has a signer permitted T
-unfoldable pub granted : List ℕ → ℕ → List Frame → Bool
+unfoldable pub granted : Policy → Target → Stack → Bool
 granted p t [] = false
 granted p t (f ∷ r) = any (λ b. on t b && all (permitted p t) (f .principal ∷ b .chain)) (f .beliefs)
 
@@ -111,7 +115,7 @@ abbrev pub goesOn : Seen → Seen
 goesOn s = record { granted = s .granted; looked = suc (s .looked) }
 
 -- newest to oldest: not permitted, forbidden; else enabled, granted; else disabled, forbidden; else on. Past the bottom, forbidden
-unfoldable pub walk : List ℕ → ℕ → List Marked → Seen
+unfoldable pub walk : Policy → Target → List Marked → Seen
 walk p t [] = record { granted = false; looked = 0 }
 walk p t (m ∷ ms) =
     cond (permits p (m .signer) t)

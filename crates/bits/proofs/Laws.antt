@@ -7,7 +7,8 @@ use Prim.Native.Nat.{ℕ, zero, suc, _+_, _-_, _*_, _/_, _%_, _^_, _≤_, _<_, m
 use native.Mathlib.Nat.{div-eq-of-lt, mul-mod-left, one-mul, pow-suc, div-self, lt-of-lt-of-le, mod-lt, lt-of-le-of-lt, div-one, div-lt-iff-lt-mul, zero-div}
 use native.Mathlib.Omega.{arith}
 use lib.Dec.{eqb, ltb}
-use lib.Bits.{bitAnd, bitOr, bitXor, and-shr, or-shr, xor-shr, and-mod, or-mod, xor-mod, or-lt, xor-lt, or-add-and, and-le-l, and-le-r, and-comm, and-shifted, xor-zero-r, and-zero-r}
+use lib.Bits.{bitAnd, bitOr, bitXor, and-shr, or-shr, xor-shr, and-mod, or-mod, xor-mod, or-lt, xor-lt, or-add-and, and-le-l, and-le-r, and-comm}
+use lib.Bits.{and-shifted, xor-zero-r, and-zero-r}
 use lib.Pow.{pow-pos, pow-lt, pow-mono, shl-exact, shl-shr, pow-add, shr-shr, ones-split, ones-lt, high, low}
 use lib.Arith.{bin-ind}
 use lib.ListN.{length, getD, drop, drop-of-length-le}
@@ -124,7 +125,8 @@ no-bits = bin-ind (λ (v : ℕ). ((k : ℕ) → v / 2 ^ k % 2 ≡ 0) → v ≡ 0
 pub high-bits : (n w : ℕ) → ((u : ℕ) → n ≤ u → bit w u ≡ false) → w < 2 ^ n
 unfolding bit
 high-bits n w h =
-    let none : w / 2 ^ n ≡ 0 = no-bits (w / 2 ^ n) (λ k. ap (λ (x : ℕ). x % 2) (shr-shr w n k) ∙ bit-zero _ (below-2 (w / 2 ^ (n + k))) (h (n + k) (omega arith))) in
+    let none : w / 2 ^ n ≡ 0 = no-bits (w / 2 ^ n)
+    (λ k. ap (λ (x : ℕ). x % 2) (shr-shr w n k) ∙ bit-zero _ (below-2 (w / 2 ^ (n + k))) (h (n + k) (omega arith))) in
     let small : w < 1 * 2 ^ n = div-lt-iff-lt-mul (pow-pos n) .0 (omega arith) in
     rw one-mul at small
 
@@ -160,7 +162,8 @@ bit-ones n t = go (decLt t n)
         let k : ℕ = n - suc t in
         let e : n ≡ suc k + t = omega arith in
         let e1 : suc k ≡ k + 1 = omega arith in
-        let up : (2 ^ n - 1) / 2 ^ t ≡ 2 ^ suc k - 1 = ap (λ (x : ℕ). (2 ^ x - 1) / 2 ^ t) e ∙ ap (λ (x : ℕ). x / 2 ^ t) (ones-split (suc k) t) ∙ high (2 ^ suc k - 1) t (ones-lt t) in
+        let up : (2 ^ n - 1) / 2 ^ t ≡ 2 ^ suc k - 1 = ap (λ (x : ℕ). (2 ^ x - 1) / 2 ^ t) e ∙ ap (λ (x : ℕ). x / 2 ^ t) (ones-split (suc k) t)
+        ∙ high (2 ^ suc k - 1) t (ones-lt t) in
         let odd : (2 ^ suc k - 1) % 2 ≡ 1 = ap (λ (x : ℕ). (2 ^ x - 1) % 2) e1 ∙ ap (λ (x : ℕ). x % 2) (ones-split k 1) ∙ low (2 ^ k - 1) 1 (ones-lt 1) in
         rw (up, odd) (sym (lt-ltb t n h))
     go (no h) =
@@ -243,7 +246,8 @@ module _ (ws : List ℕ) (n : ℕ) where
   pub all-below-more : (together i : ℕ) → i < length ws
       → (below together n && allBelow (drop i ws) n) ≡ (below (bitOr together (getD ws i 0)) n && allBelow (drop (i + 1) ws) n)
   unfolding allBelow
-  all-below-more together i l = rw (drop-cons ws i 0 l, add-one, below-or together (getD ws i 0) n) (sym (and-assoc (below together n) (below (getD ws i 0) n) _))
+  all-below-more together i l =
+      rw (drop-cons ws i 0 l, add-one, below-or together (getD ws i 0) n) (sym (and-assoc (below together n) (below (getD ws i 0) n) _))
 
   pub all-below-end : (together i : ℕ) → length ws ≤ i → (below together n && allBelow (drop i ws) n) ≡ below together n
   unfolding allBelow

@@ -59,11 +59,11 @@ const LIST_MOST: usize = 4097;
 
 const DIGITS: [u8; 16] = *b"0123456789ABCDEF";
 
-type Policy = [u64; 35];
+type Policy = [u64; policy::WORDS];
 
-type Walk = [u64; 190];
+type Walk = [u64; walk::WORDS];
 
-type Record = [u64; 4096];
+type Record = [u64; record::WORDS];
 
 // One letter: the prover takes a number more quickly than a text.
 fn put(letter: u8) {
@@ -316,7 +316,7 @@ fn steps(who: u64, p: &Policy, w: &mut Walk, r: &mut Record, bytes: &[u8]) {
 
 // The bytes of what becomes the policy, the number, and the value, which is lent as 35 sevens.
 fn read(bytes: &[u8], p: &mut Policy) {
-    *p = [7u64; 35];
+    *p = [7u64; policy::WORDS];
     let number = galmuvesh_policy_read(bytes, p);
     bytes_told(bytes);
     value(b' ', number as u64, 10);
@@ -406,9 +406,9 @@ fn name(line: &[u8]) -> usize {
 
 // A line. Each case begins with the document's policy and with fresh states, so that it says all that it needs.
 fn case(line: &[u8]) {
-    let mut p = [0u64; 35];
-    let mut w = [0u64; 190];
-    let mut r = [0u64; 4096];
+    let mut p = [0u64; policy::WORDS];
+    let mut w = [0u64; walk::WORDS];
+    let mut r = [0u64; record::WORDS];
     let mut s = [0u64; 4];
     let mut n: u64 = 0;
     obey(b" policy 0 3 2 3 1", &mut p, &mut w, &mut r, &mut s, &mut n);

@@ -5,18 +5,20 @@ use mathlib.Core.List.{List}
 use Prim.Native.Nat.{ℕ, _+_, _*_, _≤_}
 use native.Mathlib.Omega.{arith}
 use lib.ListN.{length, take}
-use Rattle.beliefs.specs.Account.{Account}
+use Rattle.answers.specs.Account.{Account}
+use Rattle.beliefs.specs.Policy.{Policy, Target}
 use Rattle.beliefs.specs.Stack.{walk}
 use Rattle.beliefs.specs.Derivation.{ours}
 use Rattle.beliefs.proofs.Lists.{front}
-use Rattle.walk.specs.State.{frames}
+use Rattle.walk.specs.Layout.{frames}
 use Rattle.derivation.specs.Promise.{barred}
 use Rattle.derivation.proofs.Ours.{ours-length, ours-bytes}
-use Rattle.derivation.proofs.Demand.{looked-few, ours-checked, checked-granted, checked-enough, checked-figure, ours-written, written-unbarred, written-granted, written-room}
+use Rattle.derivation.proofs.Demand.{looked-few, ours-checked, checked-granted, checked-enough, checked-figure, ours-written, written-unbarred}
+use Rattle.derivation.proofs.Demand.{written-granted, written-room}
 use Rattle.demands.specs.Exported.{DerivationWrote, DerivationChecked}
 use Rattle.demands.specs.Shown.{Settled}
 
-module _ (p s : List ℕ) (t : ℕ) where
+module _ (p : Policy) (s : List ℕ) (t : Target) where
   abbrev looked : ℕ
   looked = walk p t (frames s) .looked
 
@@ -65,8 +67,11 @@ module _ (p s : List ℕ) (t : ℕ) where
   settled b = record {
     exactly = (
       λ some. checked-granted p s t (some .0) (sym (some .2 .1 .number)),
-      λ g. let told = ours-checked p s t b g in
-          (ours looked, ours-bytes looked (looked-few p s t), (3 * looked + 1, record { number = sym (ap (λ (a : Account). a .number) told); figure = sym (ap (λ (a : Account). a .figure) told) })),
+      λ g. let told = ours-checked p s t b g in (
+        ours looked,
+        ours-bytes looked (looked-few p s t),
+        (3 * looked + 1, record { number = sym (ap (λ (a : Account). a .number) told); figure = sym (ap (λ (a : Account). a .figure) told) }),
+      ),
     );
     ours-accepted = accepted b;
     ours-count = ours-length looked;

@@ -1,4 +1,5 @@
--- What an accepted derivation shows, whoever wrote it: some take may be made, every frame of it is permitted, and three steps were spent on each of its frames beside the take. Assumes nothing.
+-- What an accepted derivation shows, whoever wrote it: some take may be made, every frame of it is permitted, and three steps were spent on each of its
+-- frames beside the take. Assumes nothing.
 use mathlib.Core.Path.{_≡_, refl, sym}
 use mathlib.Core.Bool.{Bool, true, false, cond, _&&_, _||_}
 use mathlib.Core.Option.{Option, some, none, Option·map, Option·elim}
@@ -11,8 +12,8 @@ use lib.Seq.{length-take-le}
 use Rattle.bits.proofs.Laws.{never}
 use Rattle.beliefs.specs.declared.Marked.{Marked}
 use Rattle.beliefs.specs.Lists.{empty}
-use Rattle.beliefs.specs.Numbers.{notAllowed, notEmpty}
-use Rattle.beliefs.specs.Account.{told}
+use Rattle.answers.specs.Numbers.{notAllowed, notEmpty}
+use Rattle.answers.specs.Account.{told}
 use Rattle.beliefs.specs.Policy.{permits}
 use Rattle.beliefs.specs.Derivation.{Entry, frame, signer, target, mayTake, taken, spoken, allowed, atPlace, dropFrom, dropLast, rule, place, follow, judge}
 use Rattle.derivation.proofs.Deciding.{speak, Stands, may-within}
@@ -148,7 +149,8 @@ module _ (p : List ℕ) (t : ℕ) where
         dropped (x ∷ l) o k = drop-from x l (take (s .n) ms) xs o k
 
         go : (one two first : Bool)
-            → cond one (atPlace spoken (place b) es) (cond two (atPlace (allowed p t) (place b) es) (cond first (dropLast es) none)) ≡ some xs → Since xs (suc i)
+            → cond one (atPlace spoken (place b) es) (cond two (atPlace (allowed p t) (place b) es) (cond first (dropLast es) none)) ≡ some xs
+            → Since xs (suc i)
         go true two first k = next (at-place spoken spoken-rule (place b) (take (s .n) ms) es xs (s .over) k)
         go false true first k = next (at-place (allowed p t) allowed-rule (place b) (take (s .n) ms) es xs (s .over) k)
         go false false true k = next (dropped es (s .over) k)
@@ -181,7 +183,8 @@ module _ (p : List ℕ) (t : ℕ) where
         let w : 3 * s refl .n + 1 ≤ 0 + i = s refl .spent in
         record { n = s refl .n; stands = record { may = s refl .may; permitted = s refl .over }; steps-enough = omega arith }
 
-    shows : (steps : List ℕ) (took : Bool) (i : ℕ) (es : List Entry) → (took ≡ true → Since es i) → judge p ms t took i es steps .number ≡ 0 → Shown (i + length steps)
+    shows : (steps : List ℕ) (took : Bool) (i : ℕ) (es : List Entry) → (took ≡ true → Since es i) → judge p ms t took i es steps .number ≡ 0
+        → Shown (i + length steps)
     unfolding judge Option·elim
     shows [] took i es s h = let same : i ≡ i + 0 = omega arith in rw (← same) (ends took i es s h)
     shows (b ∷ bs) took i es s h = go (follow p ms t b es) refl (λ l. shows bs (took || eqb (rule b) 0) (suc i) l) h
@@ -195,8 +198,10 @@ module _ (p : List ℕ) (t : ℕ) where
         new l q false e k = onward b es l i e q (s (was took k))
 
         go : (y : Option (List Entry)) → follow p ms t b es ≡ y
-            → ((l : List Entry) → ((took || eqb (rule b) 0) ≡ true → Since l (suc i)) → judge p ms t (took || eqb (rule b) 0) (suc i) l bs .number ≡ 0 → Shown (suc i + length bs))
-            → Option·elim y (told notAllowed i) (λ (l : List Entry). judge p ms t (took || eqb (rule b) 0) (suc i) l bs) .number ≡ 0 → Shown (i + suc (length bs))
+            → ((l : List Entry) → ((took || eqb (rule b) 0) ≡ true → Since l (suc i)) → judge p ms t (took || eqb (rule b) 0) (suc i) l bs .number ≡ 0
+            → Shown (suc i + length bs))
+            → Option·elim y (told notAllowed i) (λ (l : List Entry). judge p ms t (took || eqb (rule b) 0) (suc i) l bs) .number ≡ 0
+            → Shown (i + suc (length bs))
         go none q ih k = absurd (omega arith)
         go (some l) q ih k = let same : suc i + length bs ≡ i + suc (length bs) = omega arith in rw (← same) (ih l (new l q (eqb (rule b) 0) refl) k)
 

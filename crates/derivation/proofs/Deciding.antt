@@ -1,4 +1,5 @@
--- Where the walk grants, its deciding frame is one that a chain may end at, and the first such; where a chain may end at a frame with every frame of it permitted, the walk grants there or before. Assumes nothing.
+-- Where the walk grants, its deciding frame is one that a chain may end at, and the first such; where a chain may end at a frame with every frame of it
+-- permitted, the walk grants there or before. Assumes nothing.
 use mathlib.Core.Path.{_≡_, refl, sym}
 use mathlib.Core.Bool.{Bool, true, false, cond, not, _&&_}
 use mathlib.Core.List.{List, [], _∷_}
@@ -66,7 +67,10 @@ module _ (p : List ℕ) (t : ℕ) where
 
   whole : (ms : List Marked) (k : ℕ) → At p t ms k → Stands p t ms (suc k)
   unfolding mayTake
-  whole ms k h = record { may = rw (le-leb 1 (suc k) (omega arith), le-leb (suc k) (length ms) (h .within), one-less k, h .enabled, h .clear); permitted = h .permitted }
+  whole ms k h = record {
+    may = rw (le-leb 1 (suc k) (omega arith), le-leb (suc k) (length ms) (h .within), one-less k, h .enabled, h .clear);
+    permitted = h .permitted;
+  }
 
   -- one frame more, newer than those of a take; and one less
   more : (m : Marked) (ms : List Marked) (n : ℕ) → permits p (m .signer) t ≡ true → bit (m .disabled) t ≡ false → Stands p t ms n → Stands p t (m ∷ ms) (suc n)
@@ -78,8 +82,15 @@ module _ (p : List ℕ) (t : ℕ) where
   less : (m : Marked) (ms : List Marked) (k : ℕ) → Stands p t (m ∷ ms) (suc (suc k)) → (bit (m .disabled) t ≡ false) × Stands p t ms (suc k)
   less m ms k h =
       let a = parts (m ∷ ms) (suc k) h in
-      let c = both (not (bit (m .disabled) t)) (a .clear) in
-      (not-false _ (c .0), whole ms k (record { within = omega arith; enabled = a .enabled; clear = c .1; permitted = both (permits p (m .signer) t) (a .permitted) .1 }))
+      let c = both (not (bit (m .disabled) t)) (a .clear) in (
+        not-false _ (c .0),
+        whole ms k (record {
+          within = omega arith;
+          enabled = a .enabled;
+          clear = c .1;
+          permitted = both (permits p (m .signer) t) (a .permitted) .1;
+        }),
+      )
 
   -- where the walk grants, a take of the frames looked at may be made, and every frame of it is permitted
   pub granted-stands : (ms : List Marked) → walk p t ms .granted ≡ true → Stands p t ms (walk p t ms .looked)
@@ -105,7 +116,8 @@ module _ (p : List ℕ) (t : ℕ) where
       let a = parts (m ∷ ms) 0 h in
       rw (both (permits p (m .signer) t) (h .permitted) .0, a .enabled) (record { granted = refl; looked = omega arith })
   stands-granted (m ∷ ms) (suc (suc k)) h =
-      rw (both (permits p (m .signer) t) (h .permitted) .0, less m ms k h .0) (go (bit (m .enabled) t) (walk p t ms) (stands-granted ms (suc k) (less m ms k h .1)))
+      rw (both (permits p (m .signer) t) (h .permitted) .0, less m ms k h .0)
+      (go (bit (m .enabled) t) (walk p t ms) (stands-granted ms (suc k) (less m ms k h .1)))
     where
       go : (e : Bool) (v : Seen) → Granted v (suc k) → Granted (cond e (decides true) (goesOn v)) (suc (suc k))
       go true v b = record { granted = refl; looked = omega arith }

@@ -10,21 +10,27 @@ use native.Mathlib.Nat.{zero-add}
 use native.Mathlib.Omega.{arith}
 use lib.Dec.{eqb, ltb}
 use lib.ListN.{length, getD}
-use borrow.Author.Tests.{eqb-true, eqb-false, ne-eqb, lt-ltb, le-ltb, ltb-false}
+use borrow.Author.Tests.{eqb-true, eqb-false, eq-eqb, ne-eqb, lt-ltb, le-ltb, ltb-false}
 use Rattle.beliefs.specs.declared.Marked.{Marked}
 use Rattle.beliefs.specs.Lists.{empty}
-use Rattle.beliefs.specs.Numbers.{notAllowed, notEmpty, noRoom, forbidden}
-use Rattle.beliefs.specs.Account.{Account, told}
-use Rattle.beliefs.specs.Policy.{targets, valid}
+use Rattle.answers.specs.Numbers.{notAllowed, notEmpty, forbidden, unless, first}
+use Rattle.answers.specs.Account.{Account, told, shortOf}
+use Rattle.answers.proofs.Numbers.{held, neither, spared}
+use Rattle.answers.proofs.Given.{passes}
+use Rattle.words.specs.Words.{outside}
+use Rattle.words.specs.Words as words
+use Rattle.beliefs.specs.Policy.{Policy, Target, targets, valid}
 use Rattle.beliefs.specs.Stack.{walk}
-use Rattle.beliefs.specs.Derivation.{Entry, rule, follow, judge, ours, shown}
+use Rattle.beliefs.specs.Derivation.{Entry, rule, follow, judge, ours}
 use Rattle.beliefs.proofs.Counts.{looked-le}
-use Rattle.walk.specs.State.{depth, frames, fits}
+use Rattle.beliefs.proofs.Policy.{not-refused-with}
+use Rattle.walk.specs.Layout.{depth, frames}
+use Rattle.walk.specs.Fits.{fits}
 use Rattle.walk.proofs.Frames.{framesAt-length}
 use Rattle.derivation.specs.Promise.{barred, checking, writing}
 use Rattle.derivation.proofs.Deciding.{granted-stands, stands-granted}
 use Rattle.derivation.proofs.Accepted.{accepted-shows}
-use Rattle.derivation.proofs.Judged.{empty-frames, check-barred, check-judged, write-barred, written}
+use Rattle.derivation.proofs.Judged.{check-barred, check-judged, write-barred, written}
 use Rattle.derivation.proofs.Ours.{ours-accepted}
 
 module _ (p : List ℕ) (t : ℕ) (ms : List Marked) where
@@ -45,7 +51,8 @@ module _ (p : List ℕ) (t : ℕ) (ms : List Marked) where
       omega arith
 
   -- the figure of accepted steps is their number
-  pub accepted-figure : (steps : List ℕ) (took : Bool) (i : ℕ) (es : List Entry) → judge p ms t took i es steps .number ≡ 0 → judge p ms t took i es steps .figure ≡ i + length steps
+  pub accepted-figure : (steps : List ℕ) (took : Bool) (i : ℕ) (es : List Entry) → judge p ms t took i es steps .number ≡ 0
+      → judge p ms t took i es steps .figure ≡ i + length steps
   unfolding judge Option·elim
   accepted-figure [] took i es h = go (took && empty es) h
     where
@@ -54,16 +61,17 @@ module _ (p : List ℕ) (t : ℕ) (ms : List Marked) where
       go false k = absurd (omega arith)
   accepted-figure (b ∷ bs) took i es h = go (follow p ms t b es) (λ l. accepted-figure bs (took || eqb (rule b) 0) (suc i) l) h
     where
-      go : (y : Option (List Entry)) → ((l : List Entry) → judge p ms t (took || eqb (rule b) 0) (suc i) l bs .number ≡ 0 → judge p ms t (took || eqb (rule b) 0) (suc i) l bs .figure ≡ suc i + length bs)
+      go : (y : Option (List Entry)) → ((l : List Entry) → judge p ms t (took || eqb (rule b) 0) (suc i) l bs .number ≡ 0
+          → judge p ms t (took || eqb (rule b) 0) (suc i) l bs .figure ≡ suc i + length bs)
           → Option·elim y (told notAllowed i) (λ (l : List Entry). judge p ms t (took || eqb (rule b) 0) (suc i) l bs) .number ≡ 0
           → Option·elim y (told notAllowed i) (λ (l : List Entry). judge p ms t (took || eqb (rule b) 0) (suc i) l bs) .figure ≡ i + suc (length bs)
       go none ih k = absurd (omega arith)
       go (some l) ih k = omega (arith, ih l k)
 
 -- a valid policy, a state that number 14 lets through, a frame and a target of the policy: nothing bars a report on the steps
-pub unbarred : (p s : List ℕ) (t : ℕ) → valid p ≡ true → fits p s ≡ true → getD s 0 0 ≢ 0 → t < targets p → barred p s t ≡ 0
-unfolding barred
-unbarred p s t v f d l = rw (v, f, lt-ltb t (targets p) l, empty-frames s (depth s), ne-eqb (depth s) 0 (omega arith))
+pub unbarred : (p : Policy) (s : List ℕ) (t : Target) → valid p ≡ true → fits p s ≡ true → getD s 0 0 ≢ 0 → t < targets p → barred p s t ≡ 0
+unfolding outside words.barred
+unbarred p s t v f d l = rw (eq-eqb _ _ (not-refused-with p (fits p s) v f), lt-ltb t (targets p) l, ne-eqb (depth s) 0 (omega arith))
 
 -- a report of 0 was not barred
 not-barred : (p s : List ℕ) (t : ℕ) (a : Account) → a .number ≡ 0 → (barred p s t ≢ 0 → a ≡ told (barred p s t) 0) → barred p s t ≡ 0
@@ -111,22 +119,12 @@ module _ (p s : List ℕ) (t : ℕ) where
     pub written-unbarred : barred p s t ≡ 0
     written-unbarred = not-barred p s t (writing p s t room) z (λ no. write-barred p s t _ refl no room)
 
-    abbrev tried : Account
-    tried = cond (walk p t (frames s) .granted) (shown looked room) (told forbidden 0)
-
-    was : tried .number ≡ 0
-    was = rw (written p s t written-unbarred _ refl room) at z
+    tests : (unless (walk p t (frames s) .granted) forbidden ≡ 0) × (shortOf (3 * looked + 1) room ≡ 0)
+    tests = neither _ _ (passes (first (unless (walk p t (frames s) .granted) forbidden) (shortOf (3 * looked + 1) room)) _
+        (rw (written p s t written-unbarred _ refl room) at z))
 
     pub written-granted : walk p t (frames s) .granted ≡ true
-    written-granted = go (walk p t (frames s) .granted) was
-      where
-        go : (e : Bool) → cond e (shown looked room) (told forbidden 0) .number ≡ 0 → e ≡ true
-        go true k = refl
-        go false k = absurd (omega arith)
+    written-granted = held _ 11 (tests .0)
 
     pub written-room : 3 * looked + 1 ≤ room
-    written-room = go (ltb room (3 * looked + 1)) refl (rw written-granted at was)
-      where
-        go : (e : Bool) → ltb room (3 * looked + 1) ≡ e → cond e (told noRoom 0) (record { number = 0; figure = 3 * looked + 1; written = ours looked }) .number ≡ 0 → 3 * looked + 1 ≤ room
-        go true q k = absurd (omega arith)
-        go false q k = ltb-false room (3 * looked + 1) q
+    written-room = ltb-false room (3 * looked + 1) (spared (ltb room (3 * looked + 1)) 8 0 (tests .1) .0)

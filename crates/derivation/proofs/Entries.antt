@@ -6,7 +6,7 @@ use mathlib.Core.Option.{Option, some, none, Option·map}
 use mathlib.Core.List.{List, [], _∷_}
 use Prim.Native.Nat.{ℕ, zero, suc, _+_, _-_, _≤_, _<_}
 use native.Mathlib.Omega.{arith}
-use lib.ListN.{length, getD, take, List·getD-eq-default}
+use lib.ListN.{length, getD, take}
 use borrow.Author.Tests.{eq-eqb, ne-eqb, le-leb, lt-leb}
 use Rattle.bits.specs.Bit.{bit, withBit}
 use Rattle.bits.proofs.Laws.{bit-with, bit-none}
@@ -16,7 +16,7 @@ use Rattle.beliefs.specs.Policy.{permits}
 use Rattle.beliefs.specs.Stack.{nobody}
 use Rattle.beliefs.specs.Derivation.{Entry, frame, signer, target, mayTake, taken, spoken, allowed, atPlace, isTarget, dropLast}
 use Rattle.beliefs.proofs.Policy.{both}
-use Rattle.walk.specs.State.{depth, frameAt, framesAt, frames}
+use Rattle.walk.specs.Layout.{depth, frames}
 use Rattle.walk.proofs.Frames.{framesAt-length}
 use Rattle.derivation.specs.declared.Chain.{Chain}
 use Rattle.derivation.specs.Chain.{entryAt, firsts, entries, with-took}
@@ -35,11 +35,14 @@ module _ (g : Entry → Option Entry) where
 
 firsts-same : (n : ℕ) (e x : ℕ → Entry) → ((i : ℕ) → x i ≡ e i) → firsts e n ≡ firsts x n
 firsts-same zero e x h = refl
-firsts-same (suc n) e x h = ap₂ (λ (y : Entry) (l : List Entry). y ∷ l) (sym (h 0)) (firsts-same n (λ (i : ℕ). e (suc i)) (λ (i : ℕ). x (suc i)) (λ i. h (suc i)))
+firsts-same (suc n) e x h =
+    ap₂ (λ (y : Entry) (l : List Entry). y ∷ l) (sym (h 0)) (firsts-same n (λ (i : ℕ). e (suc i)) (λ (i : ℕ). x (suc i)) (λ i. h (suc i)))
 
-pub at-some : (g : Entry → Option Entry) (n k : ℕ) (e x : ℕ → Entry) → k < n → g (e k) ≡ some (x k) → ((i : ℕ) → i ≢ k → x i ≡ e i) → atPlace g k (firsts e n) ≡ some (firsts x n)
+pub at-some : (g : Entry → Option Entry) (n k : ℕ) (e x : ℕ → Entry) → k < n → g (e k) ≡ some (x k) → ((i : ℕ) → i ≢ k → x i ≡ e i)
+    → atPlace g k (firsts e n) ≡ some (firsts x n)
 at-some g zero k e x l h o = absurd (omega arith)
-at-some g (suc n) zero e x l h o = rw h (ap (λ (es : List Entry). some (x 0 ∷ es)) (firsts-same n (λ (i : ℕ). e (suc i)) (λ (i : ℕ). x (suc i)) (λ i. o (suc i) (omega arith))))
+at-some g (suc n) zero e x l h o =
+    rw h (ap (λ (es : List Entry). some (x 0 ∷ es)) (firsts-same n (λ (i : ℕ). e (suc i)) (λ (i : ℕ). x (suc i)) (λ i. o (suc i) (omega arith))))
 at-some g (suc n) (suc k) e x l h o =
     rw (at-some g n k (λ (i : ℕ). e (suc i)) (λ (i : ℕ). x (suc i)) (omega arith) h (λ i ne. o (suc i) (omega arith)))
     (ap (λ (y : Entry). some (y ∷ firsts (λ (i : ℕ). x (suc i)) n)) (sym (o 0 (omega arith))))
@@ -49,7 +52,8 @@ pub drop-last : (n : ℕ) (e : ℕ → Entry) → dropLast (firsts e (suc n)) �
 drop-last zero e = refl
 drop-last (suc n) e = rw (drop-last n (λ (i : ℕ). e (suc i))) (go (isTarget (e (suc n))))
   where
-    go : (b : Bool) → Option·map (λ (l : List Entry). e 0 ∷ l) (cond b (some (firsts (λ (i : ℕ). e (suc i)) n)) none) ≡ cond b (some (e 0 ∷ firsts (λ (i : ℕ). e (suc i)) n)) none
+    go : (b : Bool) → Option·map (λ (l : List Entry). e 0 ∷ l) (cond b (some (firsts (λ (i : ℕ). e (suc i)) n)) none)
+        ≡ cond b (some (e 0 ∷ firsts (λ (i : ℕ). e (suc i)) n)) none
     go true = refl
     go false = refl
 
@@ -80,9 +84,11 @@ module _ (ms : List Marked) (ch : Chain) (k : ℕ) where
   spoken-signer d s = says-no spoken (rw (d, s))
 
   pub spoken-frame : k < 64 → k < ch .len → bit (ch .done) k ≡ false → bit (ch .spoken) k ≡ false
-      → some (record { took = ch .taken; chain = firsts (entryAt ms (withBit (ch .spoken) k) (ch .done)) (ch .len) }) ≡ with-took (ch .taken) (atPlace spoken k (entries ms ch))
+      → some (record { took = ch .taken; chain = firsts (entryAt ms (withBit (ch .spoken) k) (ch .done)) (ch .len) })
+      ≡ with-took (ch .taken) (atPlace spoken k (entries ms ch))
   spoken-frame low l d s =
-      rw (at-some spoken (ch .len) k e (entryAt ms (withBit (ch .spoken) k) (ch .done)) l (rw (d, s, bit-same (ch .spoken) k low)) (λ i ne. rw (bit-other (ch .spoken) k i low ne)))
+      rw (at-some spoken (ch .len) k e (entryAt ms (withBit (ch .spoken) k) (ch .done)) l (rw (d, s, bit-same (ch .spoken) k low))
+      (λ i ne. rw (bit-other (ch .spoken) k i low ne)))
 
   -- rule 2
   module _ (p : List ℕ) (t : ℕ) where
@@ -97,9 +103,11 @@ module _ (ms : List Marked) (ch : Chain) (k : ℕ) where
     allowed-barred d s q = says-no (allowed p t) (rw (d, s, q))
 
     pub allowed-signer : k < 64 → k < ch .len → bit (ch .done) k ≡ false → bit (ch .spoken) k ≡ true → permits p (getD ms k nobody .signer) t ≡ true
-        → some (record { took = ch .taken; chain = firsts (entryAt ms (ch .spoken) (withBit (ch .done) k)) (ch .len) }) ≡ with-took (ch .taken) (atPlace (allowed p t) k (entries ms ch))
+        → some (record { took = ch .taken; chain = firsts (entryAt ms (ch .spoken) (withBit (ch .done) k)) (ch .len) })
+        ≡ with-took (ch .taken) (atPlace (allowed p t) k (entries ms ch))
     allowed-signer low l d s q =
-        rw (at-some (allowed p t) (ch .len) k e (entryAt ms (ch .spoken) (withBit (ch .done) k)) l (rw (d, s, q, bit-same (ch .done) k low)) (λ i ne. rw (bit-other (ch .done) k i low ne)))
+        rw (at-some (allowed p t) (ch .len) k e (entryAt ms (ch .spoken) (withBit (ch .done) k)) l (rw (d, s, q, bit-same (ch .done) k low))
+        (λ i ne. rw (bit-other (ch .done) k i low ne)))
 
 -- rule 3
 target-bit : (ms : List Marked) (sp dn k : ℕ) → isTarget (entryAt ms sp dn k) ≡ bit dn k
@@ -125,7 +133,8 @@ module _ (ms : List Marked) (ch : Chain) where
     drop-other d = rw (last, d)
 
     pub drop-target : bit (ch .done) (ch .len - 1) ≡ true
-        → some (record { took = ch .taken; chain = firsts (entryAt ms (ch .spoken) (ch .done)) (ch .len - 1) }) ≡ with-took (ch .taken) (dropLast (entries ms ch))
+        → some (record { took = ch .taken; chain = firsts (entryAt ms (ch .spoken) (ch .done)) (ch .len - 1) })
+        ≡ with-took (ch .taken) (dropLast (entries ms ch))
     drop-target d = rw (last, d)
 
 -- rule 0: a chain just taken, with no place that has spoken
@@ -136,16 +145,6 @@ fresh n ms h = firsts-same n (entryAt ms 0 0) (λ (k : ℕ). frame (getD ms k no
     go zero ms h = refl
     go (suc n) [] h = absurd (omega arith)
     go (suc n) (m ∷ ms) h = ap (λ (l : List Entry). frame (m .signer) ∷ l) (go n ms (omega arith))
-
--- the frame at a place of a state's frames
-module _ (s : List ℕ) where
-  pub place-past : (d k : ℕ) → d ≤ k → nobody ≡ getD (framesAt s d) k nobody
-  place-past d k h = sym (List·getD-eq-default (framesAt s d) nobody (omega (arith, framesAt-length s d)))
-
-  pub place-in : (d k : ℕ) → k < d → frameAt s (d - 1 - k) ≡ getD (framesAt s d) k nobody
-  place-in zero k h = absurd (omega arith)
-  place-in (suc d) zero h = let e : suc d - 1 - 0 ≡ d = omega arith in ap (frameAt s) e
-  place-in (suc d) (suc k) h = let e : suc d - 1 - suc k ≡ d - 1 - k = omega arith in ap (frameAt s) e ∙ place-in d k (omega arith)
 
 -- every one of the first k, one more at a time; a list's end counts as one that holds
 module _ (f : Marked → Bool) where
@@ -174,6 +173,7 @@ module _ (t n : ℕ) (s : List ℕ) where
     unfolding mayTake
     take-past h = rw (le-leb 1 n some-frame, framesAt-length s (depth s), lt-leb n (depth s) h)
 
-    pub take-in : n ≤ depth s → mayTake t n (frames s) ≡ (bit (getD (frames s) (n - 1) nobody .enabled) t && all (λ (m : Marked). not (bit (m .disabled) t)) (take (n - 1) (frames s)))
+    pub take-in : n ≤ depth s → mayTake t n (frames s)
+        ≡ (bit (getD (frames s) (n - 1) nobody .enabled) t && all (λ (m : Marked). not (bit (m .disabled) t)) (take (n - 1) (frames s)))
     unfolding mayTake
     take-in h = rw (le-leb 1 n some-frame, framesAt-length s (depth s), le-leb n (depth s) h)

@@ -7,23 +7,26 @@ use mathlib.Core.List.{List, []}
 use Prim.Native.Nat.{ℕ, zero, suc, _+_, _*_, _%_, _≤_, _<_}
 use native.Mathlib.Omega.{arith}
 use native.Mathlib.Numerals.{add-one}
-use lib.Dec.{eqb, ltb}
+use lib.Dec.{eqb}
 use lib.ListN.{length, getD, drop, drop-of-length-le}
 use lib.Seq.{drop-cons}
 use borrow.Author.Tests.{ne-eqb, lt-ltb, le-ltb}
 use Rattle.beliefs.specs.declared.Marked.{Marked}
 use Rattle.beliefs.specs.declared.Seen.{Seen}
 use Rattle.beliefs.specs.Lists.{empty}
-use Rattle.beliefs.specs.Numbers.{noTarget, noFrame, noRoom, notAllowed, notEmpty, forbidden, badPolicy, badState}
-use Rattle.beliefs.specs.Account.{Account, told}
-use Rattle.beliefs.specs.Policy.{targets, valid}
+use Rattle.answers.specs.Numbers.{noRoom, notAllowed, notEmpty, forbidden}
+use Rattle.answers.specs.Account.{Account, told, barring}
+use Rattle.answers.proofs.Given.{barring-twice}
+use Rattle.words.specs.declared.Operation.the-variants.{Check}
+use Rattle.beliefs.specs.Policy.{Policy, Target, refusalIn, refusalOf}
 use Rattle.beliefs.specs.Stack.{walk}
-use Rattle.beliefs.specs.Derivation.{Entry, rule, follow, judge, judged, ours, shown, derived}
-use Rattle.walk.specs.State.{framesAt, frames, fits}
-use Rattle.walk.proofs.Frames.{six-bits}
+use Rattle.beliefs.specs.Derivation.{Entry, rule, follow, judge, unasked, judged, ours, shown, derived}
+use Rattle.walk.specs.Layout.{depth, frames}
+use Rattle.walk.specs.Fits.{fits}
+use Rattle.walk.proofs.Frames.{framesAt-length, six-bits}
 use Rattle.derivation.specs.declared.Chain.{Chain}
 use Rattle.derivation.specs.Chain.{entryAt, firsts, entries, Held, held, with-took}
-use Rattle.derivation.specs.Promise.{barred, guarded, checking, writing}
+use Rattle.derivation.specs.Promise.{barred, checking, writing}
 
 pub empty-entries : (ms : List Marked) (ch : Chain) → empty (entries ms ch) ≡ eqb (ch .len) 0
 empty-entries ms ch = go (ch .len)
@@ -51,7 +54,8 @@ module _ (p : List ℕ) (ms : List Marked) (t : ℕ) (steps : List ℕ) (i : ℕ
     unfolding Option·elim
     refused h = one ∙ go (ch .taken || eqb (rule (getD steps i 0)) 0) (follow p ms t (getD steps i 0) (entries ms ch)) h
       where
-        go : (took : Bool) (y : Option (List Entry)) → none ≡ with-took took y → Option·elim y (told notAllowed i) (λ (l : List Entry). judge p ms t took (suc i) l (drop (suc i) steps)) ≡ told notAllowed i
+        go : (took : Bool) (y : Option (List Entry)) → none ≡ with-took took y
+            → Option·elim y (told notAllowed i) (λ (l : List Entry). judge p ms t took (suc i) l (drop (suc i) steps)) ≡ told notAllowed i
         go took none k = refl
         go took (some l) k = cc
 
@@ -61,80 +65,61 @@ module _ (p : List ℕ) (ms : List Marked) (t : ℕ) (steps : List ℕ) (i : ℕ
     onward next h = rw add-one (one ∙ go (ch .taken || eqb (rule (getD steps i 0)) 0) (follow p ms t (getD steps i 0) (entries ms ch)) h)
       where
         go : (took : Bool) (y : Option (List Entry)) → some (held ms next) ≡ with-took took y
-            → Option·elim y (told notAllowed i) (λ (l : List Entry). judge p ms t took (suc i) l (drop (suc i) steps)) ≡ judge p ms t (next .taken) (suc i) (entries ms next) (drop (suc i) steps)
+            → Option·elim y (told notAllowed i) (λ (l : List Entry). judge p ms t took (suc i) l (drop (suc i) steps)) ≡ judge p ms t (next .taken) (suc i)
+            (entries ms next) (drop (suc i) steps)
         go took none k = cc
         go took (some l) k =
             let h : held ms next ≡ record { took = took; chain = l } = cc in
             sym (ap (λ (x : Held). judge p ms t (x .took) (suc i) (x .chain) (drop (suc i) steps)) h)
 
--- the guards, before any report a over the state's frames
-module _ (p s : List ℕ) (t : ℕ) (a : Account) where
-  abbrev pub behind : Account
-  behind = guarded p s (cond (ltb t (targets p)) (cond (empty (frames s)) (told noFrame 0) a) (told noTarget 0))
+-- the guards are the front door's, before any report a over the state's frames
+module _ (p : Policy) (s : List ℕ) (t : Target) where
+  one-door : (a : Account) → barring (refusalIn p (fits p s)) (barring (unasked p (frames s) t) a) ≡ barring (barred p s t) a
+  one-door a =
+      barring-twice (refusalIn p (fits p s)) (unasked p (frames s) t) a
+      ∙ ap (λ (d : ℕ). barring (refusalOf p (fits p s) d (Check t)) a) (framesAt-length s (depth s))
 
-  -- 0 lets the report through, and any other number is the report
-  picks : (v f l e : Bool) → cond v (cond f (cond l (cond e noFrame 0) noTarget) badState) badPolicy ≡ 0 → cond v (cond f (cond l (cond e (told noFrame 0) a) (told noTarget 0)) (told badState 0)) (told badPolicy 0) ≡ a
-  picks true true true true h = absurd (omega arith)
-  picks true true true false h = refl
-  picks true true false e h = absurd (omega arith)
-  picks true false l e h = absurd (omega arith)
-  picks false f l e h = absurd (omega arith)
-
-  turns-away : (v f l e : Bool) → cond v (cond f (cond l (cond e noFrame 0) noTarget) badState) badPolicy ≢ 0
-      → cond v (cond f (cond l (cond e (told noFrame 0) a) (told noTarget 0)) (told badState 0)) (told badPolicy 0) ≡ told (cond v (cond f (cond l (cond e noFrame 0) noTarget) badState) badPolicy) 0
-  turns-away true true true true h = refl
-  turns-away true true true false h = absurd (h refl)
-  turns-away true true false e h = refl
-  turns-away true false l e h = refl
-  turns-away false f l e h = refl
-
-  pub let-through : barred p s t ≡ 0 → behind ≡ a
-  unfolding barred
-  let-through h = picks (valid p) (fits p s) (ltb t (targets p)) (empty (frames s)) h
-
-  pub turned-away : barred p s t ≢ 0 → behind ≡ told (barred p s t) 0
-  unfolding barred
-  turned-away h = turns-away (valid p) (fits p s) (ltb t (targets p)) (empty (frames s)) h
-
-pub empty-frames : (s : List ℕ) (d : ℕ) → empty (framesAt s d) ≡ eqb d 0
-empty-frames s zero = refl
-empty-frames s (suc d) = sym (ne-eqb (suc d) 0 (omega arith))
-
--- the checker and the writer: turned away by a guard
-module _ (p s : List ℕ) (t n : ℕ) (e : n ≡ barred p s t) (no : n ≢ 0) where
-  away : barred p s t ≢ 0
-  away h = no (e ∙ h)
-
-  pub check-barred : (steps : List ℕ) → checking p s t steps ≡ told n 0
+  pub check-door : (steps : List ℕ) → checking p s t steps ≡ barring (barred p s t) (judge p (frames s) t false 0 [] steps)
   unfolding checking judged
-  check-barred steps = turned-away p s t (judge p (frames s) t false 0 [] steps) away ∙ ap (λ (x : ℕ). told x 0) (sym e)
+  check-door steps = one-door (judge p (frames s) t false 0 [] steps)
 
-  pub write-barred : (room : ℕ) → writing p s t room ≡ told n 0
+  pub write-door : (room : ℕ) → writing p s t room ≡ barring (barred p s t) (shown (walk p t (frames s) .granted) (walk p t (frames s) .looked) room)
   unfolding writing derived
-  write-barred room =
-      turned-away p s t (cond (walk p t (frames s) .granted) (shown (walk p t (frames s) .looked) room) (told forbidden 0)) away ∙ ap (λ (x : ℕ). told x 0) (sym e)
+  write-door room = one-door (shown (walk p t (frames s) .granted) (walk p t (frames s) .looked) room)
 
--- and let through
-module _ (p s : List ℕ) (t : ℕ) (through : barred p s t ≡ 0) where
-  pub check-judged : (steps : List ℕ) → checking p s t steps ≡ judge p (frames s) t false 0 [] steps
-  unfolding checking judged
-  check-judged steps = let-through p s t (judge p (frames s) t false 0 [] steps) through
+  -- turned away there
+  module _ (n : ℕ) (e : n ≡ barred p s t) (no : n ≢ 0) where
+    away : (a : Account) → barring (barred p s t) a ≡ told n 0
+    away a = ap (λ (x : ℕ). barring x a) (sym e) ∙ rw (ne-eqb n 0 no)
 
-  module _ (seen : Seen) (e : seen ≡ walk p t (frames s)) (room : ℕ) where
-    pub written : writing p s t room ≡ cond (seen .granted) (shown (seen .looked) room) (told forbidden 0)
-    unfolding writing derived
-    written = rw e (let-through p s t (cond (walk p t (frames s) .granted) (shown (walk p t (frames s) .looked) room) (told forbidden 0)) through)
+    pub check-barred : (steps : List ℕ) → checking p s t steps ≡ told n 0
+    check-barred steps = check-door steps ∙ away _
 
-    pub write-forbidden : seen .granted ≡ false → writing p s t room ≡ told forbidden 0
-    write-forbidden g = rw (written, g)
+    pub write-barred : (room : ℕ) → writing p s t room ≡ told n 0
+    write-barred room = write-door room ∙ away _
 
-    few : seen .looked % 64 ≡ seen .looked
-    few = six-bits p s t seen e
+  -- and let through
+  module _ (through : barred p s t ≡ 0) where
+    let-through : (a : Account) → barring (barred p s t) a ≡ a
+    let-through a = ap (λ (x : ℕ). barring x a) through
 
-    module _ (g : seen .granted ≡ true) where
-      pub write-short : room < 3 * (seen .looked % 64) + 1 → writing p s t room ≡ told noRoom 0
-      write-short h = rw (written, g) (rw (← few, lt-ltb room _ h))
+    pub check-judged : (steps : List ℕ) → checking p s t steps ≡ judge p (frames s) t false 0 [] steps
+    check-judged steps = check-door steps ∙ let-through _
 
-      pub write-done : 3 * (seen .looked % 64) + 1 ≤ room
-          → writing p s t room ≡ record { number = 0; figure = 3 * (seen .looked % 64) + 1; written = ours (seen .looked % 64) }
-      write-done h = rw (written, g) (rw (few, le-ltb room (3 * seen .looked + 1) (rw few at h)))
+    module _ (seen : Seen) (e : seen ≡ walk p t (frames s)) (room : ℕ) where
+      pub written : writing p s t room ≡ shown (seen .granted) (seen .looked) room
+      written = rw e (write-door room ∙ let-through _)
+
+      pub write-forbidden : seen .granted ≡ false → writing p s t room ≡ told forbidden 0
+      write-forbidden g = rw (written, g)
+
+      few : seen .looked % 64 ≡ seen .looked
+      few = six-bits p s t seen e
+
+      module _ (g : seen .granted ≡ true) where
+        pub write-short : room < 3 * (seen .looked % 64) + 1 → writing p s t room ≡ told noRoom 0
+        write-short h = rw (written, g) (rw (← few, lt-ltb room _ h))
+
+        pub write-done : 3 * (seen .looked % 64) + 1 ≤ room
+            → writing p s t room ≡ record { number = 0; figure = 3 * (seen .looked % 64) + 1; written = ours (seen .looked % 64) }
+        write-done h = rw (written, g) (rw (few, le-ltb room (3 * seen .looked + 1) (rw few at h)))

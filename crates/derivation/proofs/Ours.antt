@@ -9,7 +9,7 @@ use native.Mathlib.Omega.{arith}
 use lib.ListN.{length, getD, take, set, replicate, length-append, length-replicate}
 use lib.Seq.{sets, length-take-le}
 use Rattle.beliefs.specs.declared.Marked.{Marked}
-use Rattle.beliefs.specs.Account.{told}
+use Rattle.answers.specs.Account.{told}
 use Rattle.beliefs.specs.Policy.{permits}
 use Rattle.beliefs.specs.Derivation.{Entry, frame, signer, target, mayTake, taken, spoken, allowed, atPlace, dropFrom, follow, judge, atPlaces, ours}
 use Rattle.policy.specs.Read.{Bytes}
@@ -65,13 +65,15 @@ pub drops-next : (k n : ℕ) → k < n → replicate {A = ℕ} (n - k) 192 ≡ 1
 drops-next k n h = let e : n - k ≡ suc (n - (k + 1)) = omega arith in rw e
 
 -- and the four runs in their order
-pub ours-put : (l : List ℕ) (n : ℕ) → sets (sets (sets (set l 0 n) 1 (atPlaces 1 0 n)) (n + 1) (atPlaces 2 0 n)) (2 * n + 1) (replicate n 192) ≡ sets l 0 (ours n)
+pub ours-put : (l : List ℕ) (n : ℕ) → sets (sets (sets (set l 0 n) 1 (atPlaces 1 0 n)) (n + 1) (atPlaces 2 0 n)) (2 * n + 1) (replicate n 192)
+    ≡ sets l 0 (ours n)
 unfolding ours
 ours-put l n =
     let first : List ℕ = sets (set l 0 n) 1 (atPlaces 1 0 n) in
     let one : 1 + length (atPlaces 1 0 n) ≡ n + 1 = omega (arith, atPlaces-length 1 0 n) in
     let two : n + 1 + length (atPlaces 2 0 n) ≡ 2 * n + 1 = omega (arith, atPlaces-length 2 0 n) in
-    rw two at (sets-more first (n + 1) (atPlaces 2 0 n) (replicate n 192)) ∙ rw one at (sets-more (set l 0 n) 1 (atPlaces 1 0 n) (atPlaces 2 0 n ++ replicate n 192))
+    rw two at (sets-more first (n + 1) (atPlaces 2 0 n) (replicate n 192))
+    ∙ rw one at (sets-more (set l 0 n) 1 (atPlaces 1 0 n) (atPlaces 2 0 n ++ replicate n 192))
 
 -- an entry in the midst of a chain
 at-place : (g : Entry → Option Entry) (before : List Entry) (e x : Entry) (es : List Entry) → g e ≡ some x
@@ -141,10 +143,14 @@ module _ (p : List ℕ) (t : ℕ) (ms : List Marked) where
       let first : n / 64 ≡ 0 = omega arith in
       let rest : List ℕ = replicate n 192 in
       let total : 1 + n + n + n ≡ 3 * n + 1 = omega arith in
-      let spoken-all : judge p ms t true 1 (taken n ms) (atPlaces 1 0 n ++ (atPlaces 2 0 n ++ rest)) ≡ judge p ms t true (1 + n) (map (λ (m : Marked). signer (m .signer)) gs) (atPlaces 2 0 n ++ rest) =
-      rw count at (sweep 1 spoken (λ m. frame (m .signer)) (λ m. signer (m .signer)) (λ m h. refl) one-by-one [] gs 1 0 (atPlaces 2 0 n ++ rest) refl (omega arith) (s .permitted)) in
-      let allowed-all : judge p ms t true (1 + n) (map (λ (m : Marked). signer (m .signer)) gs) (atPlaces 2 0 n ++ rest) ≡ judge p ms t true (1 + n + n) (map (λ (m : Marked). target) gs) rest =
-      rw count at (sweep 2 (allowed p t) (λ m. signer (m .signer)) (λ m. target) (λ m h. rw h) two-by-two [] gs (1 + n) 0 rest refl (omega arith) (s .permitted)) in
+      let spoken-all : judge p ms t true 1 (taken n ms) (atPlaces 1 0 n ++ (atPlaces 2 0 n ++ rest))
+      ≡ judge p ms t true (1 + n) (map (λ (m : Marked). signer (m .signer)) gs) (atPlaces 2 0 n ++ rest) =
+      rw count at (sweep 1 spoken (λ m. frame (m .signer)) (λ m. signer (m .signer)) (λ m h. refl) one-by-one [] gs 1 0 (atPlaces 2 0 n ++ rest) refl
+      (omega arith) (s .permitted)) in
+      let allowed-all : judge p ms t true (1 + n) (map (λ (m : Marked). signer (m .signer)) gs) (atPlaces 2 0 n ++ rest) ≡ judge p ms t true (1 + n + n)
+      (map (λ (m : Marked). target) gs) rest =
+      rw count at (sweep 2 (allowed p t) (λ m. signer (m .signer)) (λ m. target) (λ m h. rw h) two-by-two [] gs (1 + n) 0 rest refl (omega arith)
+      (s .permitted)) in
       let ended : judge p ms t true (1 + n + n) (map (λ (m : Marked). target) gs) rest ≡ told 0 (3 * n + 1) =
       rw (all-targets gs, count, ← total) (drops n (1 + n + n)) in
       rw (takes n (omega arith) (s .may), first) (spoken-all ∙ allowed-all ∙ ended)

@@ -1,7 +1,7 @@
 -- Each promise fixes its report and the bytes left: of two that both keep it, one is the other. Assumes nothing.
 use mathlib.Core.Path.{refl}
 use Rattle.bits.proofs.Unique.{Fixes, one-result}
-use Rattle.beliefs.proofs.Unique.{reports-unique}
+use Rattle.answers.proofs.Unique.{reports-unique}
 use Rattle.derivation.proofs.check as check
 use Rattle.derivation.proofs.write as write
 

@@ -5,20 +5,21 @@ ghost use mathlib.Core.Option.{some, none};
 ghost use mathlib.Core.List.{List, []};
 ghost use Prim.Native.Nat.{_+_, _*_, _≤_, _<_};
 ghost use lib.Dec.{eqb};
-ghost use lib.ListN.{getD, take, length, replicate};
+ghost use lib.ListN.{take, length, replicate};
 ghost use lib.Seq.{sets};
 ghost use Rattle.bits.specs.Bit.{bit};
 ghost use Rattle.beliefs.specs.declared.Marked.{Marked};
 ghost use Rattle.beliefs.specs.Lists.{all};
-ghost use Rattle.beliefs.specs.Numbers.{notEmpty};
-ghost use Rattle.beliefs.specs.Account.{told, Reports};
-ghost use Rattle.beliefs.specs.Stack.{nobody};
+ghost use Rattle.answers.specs.Numbers.{notEmpty};
+ghost use Rattle.answers.specs.Account.{told, Reports, Tells};
 ghost use Rattle.beliefs.specs.Derivation.{mayTake, taken, spoken, allowed, atPlace, dropLast, rule, place, follow, judge, atPlaces, ours};
-ghost use Rattle.walk.specs.State.{frames};
+ghost use Rattle.walk.specs.Layout.{frames};
 ghost use Rattle.derivation.specs.Chain.{entries, outcome, with-took, Leaves};
-ghost use Rattle.derivation.specs.Promise.{barred, checking, writing, Tells};
-use beliefs::Marked;
-use beliefs::Report;
+ghost use Rattle.derivation.specs.Promise.{barred, checking, writing};
+use answers::Report;
+use policy::Policy;
+use walk::State;
+use words::Operation;
 
 // The chain at a step: whether one was taken, its length, and a bit for each place that has spoken and for each that is T.
 struct Chain {
@@ -34,29 +35,14 @@ enum Turn {
     Refused,
 }
 
-// The frame at a place, 0 at the newest: zeros where there is none.
-fn frame_at(state: &[u64; 190], place: u64) -> Marked
-    ensures { λ r. ⌜ r ≡ getD (frames (now (state .entry))) place nobody ⌝ }
-{
-    let depth = walk::depth(state);
-    if depth <= place {
-        return Marked {
-            signer: 0,
-            enabled: 0,
-            disabled: 0,
-        };
-    }
-    walk::frame_at(state, depth - 1 - place)
-}
-
 // Whether none of the n newest frames has the target disabled.
-fn none_disabled(state: &[u64; 190], target: u8, n: u64) -> bool
+fn none_disabled(state: &State, target: u8, n: u64) -> bool
     ensures { λ r. ⌜ r ≡ all (λ (m : Marked). not (bit (m .disabled) target)) (take n (frames (now (state .entry)))) ⌝ }
 {
     let asked = bits::with(0, target);
     let mut k: u64 = 0;
     while k < n {
-        let frame = frame_at(state, k);
+        let frame = walk::frame(state, k);
         if bits::meet(frame.disabled, asked) {
             return false;
         }
@@ -66,7 +52,7 @@ fn none_disabled(state: &[u64; 190], target: u8, n: u64) -> bool
 }
 
 // Whether n frames may be taken: the n-th has the target enabled, and none of the first n - 1 has it disabled.
-fn may_take(state: &[u64; 190], target: u8, n: u64) -> bool
+fn may_take(state: &State, target: u8, n: u64) -> bool
     ensures { λ r. ⌜ r ≡ mayTake target n (frames (now (state .entry))) ⌝ }
 {
     if n < 1 {
@@ -75,7 +61,7 @@ fn may_take(state: &[u64; 190], target: u8, n: u64) -> bool
     if walk::depth(state) < n {
         return false;
     }
-    let last = frame_at(state, n - 1);
+    let last = walk::frame(state, n - 1);
     if !bits::has(last.enabled, target) {
         return false;
     }
@@ -83,8 +69,9 @@ fn may_take(state: &[u64; 190], target: u8, n: u64) -> bool
 }
 
 // Rule 0: the chain becomes the newest frames, and what was there is forgotten.
-fn take(state: &[u64; 190], target: u8, step: u8) -> Turn
-    ensures { λ r. ⌜ outcome (frames (now (state .entry))) r ≡ with-took true (cond (mayTake target (place step) (frames (now (state .entry)))) (some (taken (place step) (frames (now (state .entry))))) none) ⌝ }
+fn take(state: &State, target: u8, step: u8) -> Turn
+    ensures { λ r. ⌜ outcome (frames (now (state .entry))) r
+        ≡ with-took true (cond (mayTake target (place step) (frames (now (state .entry)))) (some (taken (place step) (frames (now (state .entry))))) none) ⌝ }
 {
     let n = step % 64;
     if !may_take(state, target, n as u64) {
@@ -121,8 +108,9 @@ fn speak(chain: Chain, step: u8) -> Turn
 }
 
 // Rule 2: a signer becomes the target, if the policy permits.
-fn permit(policy: &[u64; 35], state: &[u64; 190], target: u8, chain: Chain, step: u8) -> Turn
-    ensures { λ r. ⌜ outcome (frames (now (state .entry))) r ≡ with-took (chain .taken) (atPlace (allowed (now (policy .entry)) target) (place step) (entries (frames (now (state .entry))) chain)) ⌝ }
+fn permit(policy: &Policy, state: &State, target: u8, chain: Chain, step: u8) -> Turn
+    ensures { λ r. ⌜ outcome (frames (now (state .entry))) r
+        ≡ with-took (chain .taken) (atPlace (allowed (now (policy .entry)) target) (place step) (entries (frames (now (state .entry))) chain)) ⌝ }
 {
     let k = step % 64;
     if chain.len <= k {
@@ -134,7 +122,7 @@ fn permit(policy: &[u64; 35], state: &[u64; 190], target: u8, chain: Chain, step
     if !bits::has(chain.spoken, k) {
         return Turn::Refused;
     }
-    let frame = frame_at(state, k as u64);
+    let frame = walk::frame(state, k as u64);
     // By the word of the target's bit, which is the same at every step: a test of the bit itself would shift each row anew.
     if !bits::meet(policy::row(policy, frame.signer), bits::with(0, target)) {
         return Turn::Refused;
@@ -167,8 +155,9 @@ fn drop_last(chain: Chain) -> Turn
 }
 
 // One step: the rule that its byte names, at the place that it names.
-fn follow(policy: &[u64; 35], state: &[u64; 190], target: u8, step: u8, chain: Chain) -> Turn
-    ensures { λ r. ⌜ outcome (frames (now (state .entry))) r ≡ with-took (chain .taken || eqb (rule step) 0) (follow (now (policy .entry)) (frames (now (state .entry))) target step (entries (frames (now (state .entry))) chain)) ⌝ }
+fn follow(policy: &Policy, state: &State, target: u8, step: u8, chain: Chain) -> Turn
+    ensures { λ r. ⌜ outcome (frames (now (state .entry))) r ≡ with-took (chain .taken || eqb (rule step) 0)
+        (follow (now (policy .entry)) (frames (now (state .entry))) target step (entries (frames (now (state .entry))) chain)) ⌝ }
 {
     let rule = step / 64;
     if rule == 0 {
@@ -192,24 +181,24 @@ fn conclude(chain: Chain, steps: u64) -> Report
 {
     if !chain.taken {
         return Report {
-            number: beliefs::NOT_EMPTY,
+            number: answers::NOT_EMPTY,
             figure: 0,
         };
     }
     if chain.len != 0 {
         return Report {
-            number: beliefs::NOT_EMPTY,
+            number: answers::NOT_EMPTY,
             figure: 0,
         };
     }
     Report {
-        number: beliefs::ACCEPTED,
+        number: answers::ACCEPTED,
         figure: steps,
     }
 }
 
 // The steps in order, from no chain: 10 with the step's index, 11.
-fn judge(policy: &[u64; 35], state: &[u64; 190], target: u8, steps: &[u8]) -> Report
+fn judge(policy: &Policy, state: &State, target: u8, steps: &[u8]) -> Report
     ensures { λ r. ⌜ Tells r (judge (now (policy .entry)) (frames (now (state .entry))) target false 0 [] (now (steps .entry))) ⌝ }
 {
     let mut chain = Chain {
@@ -223,7 +212,7 @@ fn judge(policy: &[u64; 35], state: &[u64; 190], target: u8, steps: &[u8]) -> Re
         let turn = follow(policy, state, target, steps[i], chain);
         let Turn::To(next) = turn else {
             return Report {
-                number: beliefs::NOT_ALLOWED,
+                number: answers::NOT_ALLOWED,
                 figure: i as u64,
             };
         };
@@ -233,31 +222,24 @@ fn judge(policy: &[u64; 35], state: &[u64; 190], target: u8, steps: &[u8]) -> Re
     conclude(chain, i as u64)
 }
 
-// What refuses before any step is looked at or written: 13, 14, 6, 7, else 0.
-fn barred(policy: &[u64; 35], state: &[u64; 190], target: u8) -> u8
+// What refuses before any step is looked at or written, as it would the check itself: 13, 14, 6, 7, else 0.
+fn barred(policy: &Policy, state: &State, target: u8) -> u8
     ensures { λ r. ⌜ r ≡ barred (now (policy .entry)) (now (state .entry)) target ⌝ }
 {
-    if !policy::valid(policy) {
-        return beliefs::BAD_POLICY;
-    }
-    if !walk::valid(policy, state) {
-        return beliefs::BAD_STATE;
-    }
-    if policy::targets(policy) <= target as u64 {
-        return beliefs::NO_TARGET;
-    }
-    if walk::depth(state) == 0 {
-        return beliefs::NO_FRAME;
-    }
-    beliefs::ACCEPTED
+    policy::refusal_of(
+        policy,
+        walk::valid(policy, state),
+        walk::depth(state),
+        Operation::Check(target),
+    )
 }
 
 // Whether a derivation is accepted: 13, 14, 6, 7, 10, 11, else 0 and the number of its steps.
-pub fn check(policy: &[u64; 35], state: &[u64; 190], target: u8, steps: &[u8]) -> Report
+pub fn check(policy: &Policy, state: &State, target: u8, steps: &[u8]) -> Report
     ensures { λ r. ⌜ Tells r (checking (now (policy .entry)) (now (state .entry)) target (now (steps .entry))) ⌝ }
 {
     let number = barred(policy, state, target);
-    if number != beliefs::ACCEPTED {
+    if number != answers::ACCEPTED {
         return Report { number, figure: 0 };
     }
     judge(policy, state, target, steps)
@@ -299,30 +281,31 @@ fn write_ours(steps: &mut [u8], n: usize)
 }
 
 // Writes the derivation for a granted check: 13, 14, 6, 7, 12, 9, else 0 and the number of its steps.
-pub fn write(policy: &[u64; 35], state: &[u64; 190], target: u8, steps: &mut [u8]) -> Report
-    ensures { λ r. ⌜ Reports r (now (steps .entry)) (now (steps .exit)) (writing (now (policy .entry)) (now (state .entry)) target (length (now (steps .entry)))) ⌝ }
+pub fn write(policy: &Policy, state: &State, target: u8, steps: &mut [u8]) -> Report
+    ensures { λ r. ⌜ Reports r (now (steps .entry)) (now (steps .exit))
+        (writing (now (policy .entry)) (now (state .entry)) target (length (now (steps .entry)))) ⌝ }
 {
     let number = barred(policy, state, target);
-    if number != beliefs::ACCEPTED {
+    if number != answers::ACCEPTED {
         return Report { number, figure: 0 };
     }
     let seen = walk::check(policy, state, target);
     if !seen.granted {
         return Report {
-            number: beliefs::FORBIDDEN,
+            number: answers::FORBIDDEN,
             figure: 0,
         };
     }
     let n = (seen.looked % 64) as usize;
     if steps.len() < 3 * n + 1 {
         return Report {
-            number: beliefs::NO_ROOM,
+            number: answers::NO_ROOM,
             figure: 0,
         };
     }
     write_ours(steps, n);
     Report {
-        number: beliefs::ACCEPTED,
+        number: answers::ACCEPTED,
         figure: (3 * n + 1) as u64,
     }
 }

@@ -4,8 +4,8 @@ use mathlib.Core.Path.{_≡_}
 use mathlib.Core.List.{List}
 use Prim.Native.Nat.{ℕ}
 use Rattle.bits.proofs.Unique.{Fixes, one-result}
-use Rattle.beliefs.specs.declared.Operation.{Operation}
-use Rattle.beliefs.specs.Account.{Account, Reports}
+use Rattle.words.specs.declared.Operation.{Operation}
+use Rattle.answers.specs.Account.{Account, Reports}
 use Rattle.policy.proofs.Unique.{read-unique, cut-unique}
 use Rattle.walk.proofs.Unique as walk
 use Rattle.record.proofs.Unique as record′
@@ -79,4 +79,5 @@ pub galmuvesh-derivation-write-unique : Fixes galmuvesh-derivation-write.ended g
 galmuvesh-derivation-write-unique _ _ _ _ _ _ = reported (λ w f. (tt, (tt, (tt, (w, (f, tt))))))
 
 pub galmuvesh-derivation-check-unique : Fixes galmuvesh-derivation-check.ended galmuvesh-derivation-check.Reads.Post
-galmuvesh-derivation-check-unique _ _ _ _ _ _ h k = (one-result (h .number) (k .number), λ i. (tt, (tt, (tt, (tt, (one-result (h .figure) (k .figure) i, tt))))))
+galmuvesh-derivation-check-unique _ _ _ _ _ _ h k =
+    (one-result (h .number) (k .number), λ i. (tt, (tt, (tt, (tt, (one-result (h .figure) (k .figure) i, tt))))))

@@ -5,16 +5,16 @@ use mathlib.Core.List.{List, [], _∷_}
 use Prim.Native.Nat.{ℕ}
 use lib.Dec.{eqb}
 use lib.ListN.{getD}
-use Rattle.beliefs.specs.declared.Operation.{Operation}
-use Rattle.beliefs.specs.declared.Operation.the-variants.{Call, Return, Enable, Disable, Revert, Check}
-use Rattle.beliefs.specs.declared.Report.{Report}
-use Rattle.beliefs.specs.Policy.{valid}
-use Rattle.beliefs.specs.Stack.{Frame}
-use Rattle.beliefs.specs.Trace.{Outcome, answerByte, step}
-use Rattle.beliefs.specs.Engine.{inside, verdictByte}
+use Rattle.answers.specs.declared.Report.{Report}
+use Rattle.answers.specs.Answer.{Moved, verdictByte}
+use Rattle.words.specs.declared.Operation.{Operation}
+use Rattle.words.specs.declared.Operation.the-variants.{Call, Return, Enable, Disable, Revert, Check}
+use Rattle.beliefs.specs.Policy.{Policy, Target, valid, outsideOf}
+use Rattle.beliefs.specs.Stack.{Stack}
+use Rattle.beliefs.specs.Trace.{step}
 use Rattle.passed.specs.declared.Passed.{Passed}
-use Rattle.passed.specs.State.{callOf, enableOf, disableOf, revertOf, checkOf, refusalOf}
-use Rattle.passed.specs.Picture.{PassedOf}
+use Rattle.passed.specs.Does.{callOf, enableOf, disableOf, revertOf, checkOf, refusedBy}
+use Rattle.passed.specs.Pictures.{Pictures}
 
 -- the number is returned, the figure goes through a pointer
 abbrev pub report : ℕ → ℕ → Report
@@ -28,7 +28,7 @@ abbrev pub wordsOf : Passed → List ℕ
 wordsOf s = s .depth ∷ s .signer ∷ s .own ∷ s .callers ∷ []
 
 -- the state after an operation that nothing refuses; a check leaves it as it is, and a return has no form here
-abbrev pub after : List ℕ → Passed → Operation → Passed
+abbrev pub after : Policy → Passed → Operation → Passed
 after p s (Call g) = callOf p s g
 after p s Return = s
 after p s (Enable t) = enableOf s t
@@ -46,21 +46,21 @@ returns (Revert t) = false
 returns (Check t) = false
 
 -- call, enable, disable and revert: exactly, on the four words; and against the belief sets, on each stack that they picture
-pub record Follows (p : List ℕ) (n : ℕ) (left : List ℕ) (o : Outcome) : Type 0 where
-  pub number : n ≡ o .number
-  pub pictures : PassedOf p (passedIn left) (o .stack)
+pub record Follows (p : Policy) (n : ℕ) (left : List ℕ) (m : Moved Stack) : Type 0 where
+  pub number : n ≡ m .number
+  pub pictures : Pictures p (passedIn left) (m .state)
 
-pub record Moves (p s : List ℕ) (op : Operation) (n : ℕ) (left : List ℕ) : Type 0 where
-  pub number : n ≡ refusalOf p (passedIn s) op
-  pub state : left ≡ cond (eqb (refusalOf p (passedIn s) op) 0) (wordsOf (after p (passedIn s) op)) s
-  pub serves : valid p ≡ true → inside p op ≡ true → (st : List Frame) → PassedOf p (passedIn s) st → Follows p n left (step p op st)
+pub record Moves (p : Policy) (s : List ℕ) (op : Operation) (n : ℕ) (left : List ℕ) : Type 0 where
+  pub number : n ≡ refusedBy p (passedIn s) op
+  pub state : left ≡ cond (eqb (refusedBy p (passedIn s) op) 0) (wordsOf (after p (passedIn s) op)) s
+  pub serves : valid p ≡ true → outsideOf p op ≡ 0 → (st : Stack) → Pictures p (passedIn s) st → Follows p n left (step false p op st)
 
 -- check: the answer byte is written where it is accepted, and left alone otherwise
-pub record Says (n lent byte : ℕ) (o : Outcome) : Type 0 where
-  pub number : n ≡ o .number
-  pub answer : byte ≡ cond (eqb (o .number) 0) (answerByte false o) lent
+pub record Says (n lent byte : ℕ) (m : Moved Stack) : Type 0 where
+  pub number : n ≡ m .number
+  pub answer : byte ≡ cond (eqb (m .number) 0) (m .byte) lent
 
-pub record Asks (p s : List ℕ) (t n lent byte : ℕ) : Type 0 where
-  pub number : n ≡ refusalOf p (passedIn s) (Check t)
-  pub answer : byte ≡ cond (eqb (refusalOf p (passedIn s) (Check t)) 0) (verdictByte (checkOf p (passedIn s) t) 0) lent
-  pub serves : valid p ≡ true → inside p (Check t) ≡ true → (st : List Frame) → PassedOf p (passedIn s) st → Says n lent byte (step p (Check t) st)
+pub record Asks (p : Policy) (s : List ℕ) (t : Target) (n lent byte : ℕ) : Type 0 where
+  pub number : n ≡ refusedBy p (passedIn s) (Check t)
+  pub answer : byte ≡ cond (eqb (refusedBy p (passedIn s) (Check t)) 0) (verdictByte (checkOf p (passedIn s) t) 0) lent
+  pub serves : valid p ≡ true → outsideOf p (Check t) ≡ 0 → (st : Stack) → Pictures p (passedIn s) st → Says n lent byte (step false p (Check t) st)

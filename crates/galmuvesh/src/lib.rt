@@ -3,24 +3,28 @@
 ghost use mathlib.Core.Path.{_≡_};
 ghost use mathlib.Core.Bool.{true, false};
 ghost use lib.ListN.{length};
-ghost use Rattle.beliefs.specs.declared.Operation.the-variants.{Call, Enable, Disable, Revert};
-ghost use Rattle.beliefs.specs.Account.{Reports};
+ghost use Rattle.answers.specs.Account.{Reports, Tells};
+ghost use Rattle.words.specs.declared.Operation.the-variants.{Call, Enable, Disable, Revert};
 ghost use Rattle.beliefs.specs.Policy as policies;
 ghost use Rattle.beliefs.specs.Trace.{run};
 ghost use Rattle.beliefs.specs.Engine.{Operate};
 ghost use Rattle.policy.specs.Read.{PolicyRead, cutAt};
-ghost use Rattle.walk.specs.State as walks;
-ghost use Rattle.walk.specs.Coherent as stacks;
-ghost use Rattle.record.specs.Record as records;
-ghost use Rattle.record.specs.Pictures as chains;
-ghost use Rattle.derivation.specs.Promise.{checking, writing, Tells};
+ghost use Rattle.walk.specs.Pictures.{byWalk};
+ghost use Rattle.record.specs.Pictures.{byRecord};
+ghost use Rattle.derivation.specs.Promise.{checking, writing};
 ghost use Rattle.galmuvesh.specs.Boundary.{report, passedIn, wordsOf, Moves, Asks};
-use beliefs::Operation;
 use passed::Passed;
+use policy::Policy;
+use words::Operation;
+
+// A passed state's words.
+const WORDS: usize = 4;
+
+type State = [u64; WORDS];
 
 // A policy from its bytes.
 #[no_mangle]
-pub extern "C" fn galmuvesh_policy_read(bytes: &[u8], policy: &mut [u64; 35]) -> u8
+pub extern "C" fn galmuvesh_policy_read(bytes: &[u8], policy: &mut Policy) -> u8
     ensures { λ r. ⌜ PolicyRead (now (bytes .entry)) (now (policy .entry)) r (now (policy .exit)) ⌝ }
 {
     policy::read(bytes, policy)
@@ -36,12 +40,9 @@ pub extern "C" fn galmuvesh_policy_cut(bytes: &[u8]) -> usize
 
 // The policy's one byte form.
 #[no_mangle]
-pub extern "C" fn galmuvesh_policy_write(
-    policy: &[u64; 35],
-    bytes: &mut [u8],
-    figure: &mut u64,
-) -> u8
-    ensures { λ r. ⌜ Reports (report r (now (figure .exit))) (now (bytes .entry)) (now (bytes .exit)) (policies.writing (now (policy .entry)) (length (now (bytes .entry)))) ⌝ }
+pub extern "C" fn galmuvesh_policy_write(policy: &Policy, bytes: &mut [u8], figure: &mut u64) -> u8
+    ensures { λ r. ⌜ Reports (report r (now (figure .exit))) (now (bytes .entry)) (now (bytes .exit))
+        (policies.writing (now (policy .entry)) (length (now (bytes .entry)))) ⌝ }
 {
     let report = policy::write(policy, bytes);
     *figure = report.figure;
@@ -51,12 +52,13 @@ pub extern "C" fn galmuvesh_policy_write(
 // A trace from a fresh start, by the walk.
 #[no_mangle]
 pub extern "C" fn galmuvesh_walk_run(
-    policy: &[u64; 35],
+    policy: &Policy,
     trace: &[u8],
     answers: &mut [u8],
     figure: &mut u64,
 ) -> u8
-    ensures { λ r. ⌜ Reports (report r (now (figure .exit))) (now (answers .entry)) (now (answers .exit)) (run true (now (policy .entry)) (now (trace .entry)) (length (now (answers .entry)))) ⌝ }
+    ensures { λ r. ⌜ Reports (report r (now (figure .exit))) (now (answers .entry)) (now (answers .exit))
+        (run true (now (policy .entry)) (now (trace .entry)) (length (now (answers .entry)))) ⌝ }
 {
     let report = runner::walk_run(policy, trace, answers);
     *figure = report.figure;
@@ -66,12 +68,13 @@ pub extern "C" fn galmuvesh_walk_run(
 // The same by the belief record.
 #[no_mangle]
 pub extern "C" fn galmuvesh_record_run(
-    policy: &[u64; 35],
+    policy: &Policy,
     trace: &[u8],
     answers: &mut [u8],
     figure: &mut u64,
 ) -> u8
-    ensures { λ r. ⌜ Reports (report r (now (figure .exit))) (now (answers .entry)) (now (answers .exit)) (run false (now (policy .entry)) (now (trace .entry)) (length (now (answers .entry)))) ⌝ }
+    ensures { λ r. ⌜ Reports (report r (now (figure .exit))) (now (answers .entry)) (now (answers .exit))
+        (run false (now (policy .entry)) (now (trace .entry)) (length (now (answers .entry)))) ⌝ }
 {
     let report = runner::record_run(policy, trace, answers);
     *figure = report.figure;
@@ -81,12 +84,13 @@ pub extern "C" fn galmuvesh_record_run(
 // The same by the passed state.
 #[no_mangle]
 pub extern "C" fn galmuvesh_passed_run(
-    policy: &[u64; 35],
+    policy: &Policy,
     trace: &[u8],
     answers: &mut [u8],
     figure: &mut u64,
 ) -> u8
-    ensures { λ r. ⌜ Reports (report r (now (figure .exit))) (now (answers .entry)) (now (answers .exit)) (run false (now (policy .entry)) (now (trace .entry)) (length (now (answers .entry)))) ⌝ }
+    ensures { λ r. ⌜ Reports (report r (now (figure .exit))) (now (answers .entry)) (now (answers .exit))
+        (run false (now (policy .entry)) (now (trace .entry)) (length (now (answers .entry)))) ⌝ }
 {
     let report = runner::passed_run(policy, trace, answers);
     *figure = report.figure;
@@ -96,12 +100,12 @@ pub extern "C" fn galmuvesh_passed_run(
 // One operation word on a live walk state.
 #[no_mangle]
 pub extern "C" fn galmuvesh_walk_operate(
-    policy: &[u64; 35],
-    state: &mut [u64; 190],
+    policy: &Policy,
+    state: &mut walk::State,
     word: u16,
     answer: &mut u8,
 ) -> u8
-    ensures { λ r. ⌜ Operate (stacks.Pictures (now (policy .entry))) true (walks.fits (now (policy .entry)) (now (state .entry))) (walks.stepIn (now (policy .entry)) (now (state .entry))) (now (policy .entry)) (now (state .entry)) word r (now (answer .entry)) (now (answer .exit)) (now (state .exit)) ⌝ }
+    ensures { λ r. ⌜ Operate byWalk (now (policy .entry)) (now (state .entry)) word (now (answer .entry)) r (now (answer .exit)) (now (state .exit)) ⌝ }
 {
     walk::operate(policy, state, word, answer)
 }
@@ -109,18 +113,18 @@ pub extern "C" fn galmuvesh_walk_operate(
 // The same on a live belief record.
 #[no_mangle]
 pub extern "C" fn galmuvesh_record_operate(
-    policy: &[u64; 35],
-    state: &mut [u64; 4096],
+    policy: &Policy,
+    state: &mut record::State,
     word: u16,
     answer: &mut u8,
 ) -> u8
-    ensures { λ r. ⌜ Operate (chains.Pictures (now (policy .entry))) false (records.recordFits (now (policy .entry)) (now (state .entry))) (records.stepIn (now (policy .entry)) (now (state .entry))) (now (policy .entry)) (now (state .entry)) word r (now (answer .entry)) (now (answer .exit)) (now (state .exit)) ⌝ }
+    ensures { λ r. ⌜ Operate byRecord (now (policy .entry)) (now (state .entry)) word (now (answer .entry)) r (now (answer .exit)) (now (state .exit)) ⌝ }
 {
     record::operate(policy, state, word, answer)
 }
 
 // Four words as a passed state.
-fn passed_in(state: &[u64; 4]) -> Passed
+fn passed_in(state: &State) -> Passed
     ensures { λ r. ⌜ r ≡ passedIn (now (state .entry)) ⌝ }
 {
     Passed {
@@ -132,7 +136,7 @@ fn passed_in(state: &[u64; 4]) -> Passed
 }
 
 // A passed state into its four words.
-fn put(state: &mut [u64; 4], s: Passed)
+fn put(state: &mut State, s: Passed)
     ensures { λ _. ⌜ now (state .exit) ≡ wordsOf s ⌝ }
 {
     // As a slice, so that its length is known.
@@ -145,12 +149,12 @@ fn put(state: &mut [u64; 4], s: Passed)
 
 // The state becomes the callee's; the caller keeps its own.
 #[no_mangle]
-pub extern "C" fn galmuvesh_passed_call(policy: &[u64; 35], state: &mut [u64; 4], signer: u8) -> u8
+pub extern "C" fn galmuvesh_passed_call(policy: &Policy, state: &mut State, signer: u8) -> u8
     ensures { λ r. ⌜ Moves (now (policy .entry)) (now (state .entry)) (Call signer) r (now (state .exit)) ⌝ }
 {
     let s = passed_in(state);
     let number = passed::refusal(policy, s, Operation::Call(signer));
-    if number == beliefs::ACCEPTED {
+    if number == answers::ACCEPTED {
         put(state, s.call(policy, signer));
     }
     number
@@ -158,16 +162,12 @@ pub extern "C" fn galmuvesh_passed_call(policy: &[u64; 35], state: &mut [u64; 4]
 
 // The frame enables a target.
 #[no_mangle]
-pub extern "C" fn galmuvesh_passed_enable(
-    policy: &[u64; 35],
-    state: &mut [u64; 4],
-    target: u8,
-) -> u8
+pub extern "C" fn galmuvesh_passed_enable(policy: &Policy, state: &mut State, target: u8) -> u8
     ensures { λ r. ⌜ Moves (now (policy .entry)) (now (state .entry)) (Enable target) r (now (state .exit)) ⌝ }
 {
     let s = passed_in(state);
     let number = passed::refusal(policy, s, Operation::Enable(target));
-    if number == beliefs::ACCEPTED {
+    if number == answers::ACCEPTED {
         put(state, s.enable(target));
     }
     number
@@ -175,16 +175,12 @@ pub extern "C" fn galmuvesh_passed_enable(
 
 // The frame disables a target.
 #[no_mangle]
-pub extern "C" fn galmuvesh_passed_disable(
-    policy: &[u64; 35],
-    state: &mut [u64; 4],
-    target: u8,
-) -> u8
+pub extern "C" fn galmuvesh_passed_disable(policy: &Policy, state: &mut State, target: u8) -> u8
     ensures { λ r. ⌜ Moves (now (policy .entry)) (now (state .entry)) (Disable target) r (now (state .exit)) ⌝ }
 {
     let s = passed_in(state);
     let number = passed::refusal(policy, s, Operation::Disable(target));
-    if number == beliefs::ACCEPTED {
+    if number == answers::ACCEPTED {
         put(state, s.disable(target));
     }
     number
@@ -192,16 +188,12 @@ pub extern "C" fn galmuvesh_passed_disable(
 
 // The frame reverts a target.
 #[no_mangle]
-pub extern "C" fn galmuvesh_passed_revert(
-    policy: &[u64; 35],
-    state: &mut [u64; 4],
-    target: u8,
-) -> u8
+pub extern "C" fn galmuvesh_passed_revert(policy: &Policy, state: &mut State, target: u8) -> u8
     ensures { λ r. ⌜ Moves (now (policy .entry)) (now (state .entry)) (Revert target) r (now (state .exit)) ⌝ }
 {
     let s = passed_in(state);
     let number = passed::refusal(policy, s, Operation::Revert(target));
-    if number == beliefs::ACCEPTED {
+    if number == answers::ACCEPTED {
         put(state, s.revert(target));
     }
     number
@@ -210,8 +202,8 @@ pub extern "C" fn galmuvesh_passed_revert(
 // The frame checks a target.
 #[no_mangle]
 pub extern "C" fn galmuvesh_passed_check(
-    policy: &[u64; 35],
-    state: &[u64; 4],
+    policy: &Policy,
+    state: &State,
     target: u8,
     answer: &mut u8,
 ) -> u8
@@ -219,8 +211,8 @@ pub extern "C" fn galmuvesh_passed_check(
 {
     let s = passed_in(state);
     let number = passed::refusal(policy, s, Operation::Check(target));
-    if number == beliefs::ACCEPTED {
-        *answer = beliefs::verdict_byte(s.check(policy, target), 0);
+    if number == answers::ACCEPTED {
+        *answer = answers::verdict_byte(s.check(policy, target), 0);
     }
     number
 }
@@ -228,13 +220,14 @@ pub extern "C" fn galmuvesh_passed_check(
 // The derivation of a granted check.
 #[no_mangle]
 pub extern "C" fn galmuvesh_derivation_write(
-    policy: &[u64; 35],
-    state: &[u64; 190],
+    policy: &Policy,
+    state: &walk::State,
     target: u8,
     steps: &mut [u8],
     figure: &mut u64,
 ) -> u8
-    ensures { λ r. ⌜ Reports (report r (now (figure .exit))) (now (steps .entry)) (now (steps .exit)) (writing (now (policy .entry)) (now (state .entry)) target (length (now (steps .entry)))) ⌝ }
+    ensures { λ r. ⌜ Reports (report r (now (figure .exit))) (now (steps .entry)) (now (steps .exit))
+        (writing (now (policy .entry)) (now (state .entry)) target (length (now (steps .entry)))) ⌝ }
 {
     let report = derivation::write(policy, state, target, steps);
     *figure = report.figure;
@@ -244,8 +237,8 @@ pub extern "C" fn galmuvesh_derivation_write(
 // Whether a derivation is accepted.
 #[no_mangle]
 pub extern "C" fn galmuvesh_derivation_check(
-    policy: &[u64; 35],
-    state: &[u64; 190],
+    policy: &Policy,
+    state: &walk::State,
     target: u8,
     steps: &[u8],
     figure: &mut u64,

@@ -3,10 +3,10 @@ use mathlib.Core.Path.{_≡_, refl, ap, _∙_}
 use mathlib.Core.List.{List, [], _∷_, _++_}
 use Prim.Native.Nat.{ℕ, _+_, _≤_, _<_}
 use native.Mathlib.Omega.{arith}
-use lib.ListN.{length, take, drop, set, length-append}
-use lib.Seq.{length-sets, sets-eq, take-append-seam, length-take-le}
+use lib.ListN.{length, take, set, length-append}
+use lib.Seq.{length-sets, length-take-le}
 use borrow.Author.Tests.{lt-ltb, le-ltb}
-use Rattle.beliefs.proofs.Lists.{sets-more}
+use Rattle.beliefs.proofs.Lists.{sets-more, front}
 use Rattle.lines.specs.Promise.{Puts, Lined}
 
 pub then : {l m n : List ℕ} {i j k : ℕ} {a b : List ℕ} → Puts l m i j a → Puts m n j k b → Puts l n i k (a ++ b)
@@ -15,6 +15,9 @@ then {l} {m} {n} {i} {j} {k} {a} {b} p q = record {
   buffer = q .buffer ∙ rw (p .buffer, p .until) (sets-more l i a b);
 }
 
+pub none : {l : List ℕ} → Puts l l 0 0 []
+none = record { until = refl; buffer = refl }
+
 pub one : (l : List ℕ) (i v : ℕ) → Puts l (set l i v) i (i + 1) (v ∷ [])
 one l i v = record { until = refl; buffer = refl }
 
@@ -22,7 +25,7 @@ one l i v = record { until = refl; buffer = refl }
 pub carried : {l m : List ℕ} {n : ℕ} {bytes : List ℕ} → Puts l m 0 n bytes → length bytes ≤ length l → take n m ≡ bytes
 carried {l} {m} {n} {bytes} p h =
     let e : n ≡ length bytes = omega (arith, p .until) in
-    rw (e, p .buffer, sets-eq bytes l 0 (omega arith)) (take-append-seam bytes (drop (0 + length bytes) l))
+    rw (e, p .buffer) (front l bytes h)
 
 -- a line that does not fit is not written, and one that fits is written whole
 pub nothing : (lent line : List ℕ) → length lent < length line → Lined 0 lent lent line

@@ -1,6 +1,6 @@
 -- A number of 64 bits has at most 20 digits, and they are those of its tenth part, then its last. Assumes nothing.
 use mathlib.Core.Path.{_≡_, _∙_}
-use mathlib.Core.List.{[], _∷_, _++_}
+use mathlib.Core.List.{List, [], _∷_, _++_}
 use Prim.Native.Nat.{ℕ, zero, suc, _+_, _/_, _%_, _^_, _≤_, _<_}
 use native.Mathlib.Nat.{pow-suc}
 use native.Mathlib.Omega.{arith}
@@ -9,6 +9,7 @@ use lib.Dec.{ltb}
 use lib.ListN.{length, length-append}
 use borrow.Author.Tests.{lt-ltb, le-ltb}
 use Rattle.lines.specs.Text.{digit, digits, decimal}
+use Rattle.lines.specs.Promise.{Puts}
 
 digits-short : (k n : ℕ) → length (digits k n) ≤ suc k
 unfolding digits
@@ -43,3 +44,7 @@ decimal-more n h l = digits-more 18 n l ∙ rw (spare-place 18 (n / 10) (omega a
 
 pub decimal-tenth : (n : ℕ) → n < 2 ^ 64 → 10 ≤ n → length (decimal n) ≡ length (decimal (n / 10)) + 1
 decimal-tenth n h l = rw (decimal-more n h l) (length-append (decimal (n / 10)) _)
+
+-- where the tenth part's digits end, the last digit stands
+pub tenth-end : {l m : List ℕ} {at end : ℕ} (n : ℕ) → n < 2 ^ 64 → 10 ≤ n → Puts l m at end (decimal (n / 10)) → end + 1 ≡ at + length (decimal n)
+tenth-end n h l p = omega (arith, p .until, decimal-tenth n h l)

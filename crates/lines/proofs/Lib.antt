@@ -1,3 +1,4 @@
+-- The laws of the listing's text.
 pub mod Digits
 pub mod After
 pub mod Short

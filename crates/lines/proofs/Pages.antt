@@ -13,7 +13,7 @@ use Rattle.lines.specs.declared.Filled.{Filled}
 use Rattle.lines.specs.Text.{joined}
 use Rattle.lines.specs.Page.{Page, follow, page, pages}
 use Rattle.lines.specs.Promise.{Puts, Fills}
-use Rattle.lines.proofs.After.{then}
+use Rattle.lines.proofs.After.{then, none}
 
 module _ (line : ℕ → List ℕ) where
   page-full : (room k n : ℕ) → room < length (line k) → page line room k n ≡ record { next = k; written = [] }
@@ -36,10 +36,11 @@ module _ (line : ℕ → List ℕ) where
     pub total : page line (length lent) from (end - from) ≡ follow written (page line (length lent - at) next (end - next))
 
   pub begun : (lent : List ℕ) (end from : ℕ) → Filling lent end from from 0 lent
-  begun lent end from = record { written = []; puts = record { until = refl; buffer = refl }; total = rw (sub-zero (length lent)) }
+  begun lent end from = record { written = []; puts = none; total = rw (sub-zero (length lent)) }
 
   module _ {lent : List ℕ} {end from next at : ℕ} {left : List ℕ} (f : Filling lent end from next at left) where
-    pub onward : {at′ : ℕ} {left′ : List ℕ} → next < end → length (line next) ≤ length lent - at → Puts left left′ at at′ (line next) → Filling lent end from (next + 1) at′ left′
+    pub onward : {at′ : ℕ} {left′ : List ℕ} → next < end → length (line next) ≤ length lent - at
+        → Puts left left′ at at′ (line next) → Filling lent end from (next + 1) at′ left′
     onward {at′} {left′} more fits p =
         let e : end - next ≡ suc (end - (next + 1)) = omega arith in
         let s : next + 1 ≡ suc next = omega arith in
@@ -101,7 +102,8 @@ module _ (line : ℕ → List ℕ) where
   next-least zero room k = omega arith
   next-least (suc n) room k = go (ltb room (length (line k))) (next-least n (room - length (line k)) (suc k))
     where
-      go : (b : Bool) → let rest = page line (room - length (line k)) (suc k) n in suc k ≤ rest .next → k ≤ cond b (record { next = k; written = [] }) (follow (line k) rest) .next
+      go : (b : Bool) → let rest = page line (room - length (line k)) (suc k) n in
+          suc k ≤ rest .next → k ≤ cond b (record { next = k; written = [] }) (follow (line k) rest) .next
       go true ih = omega arith
       go false ih = omega arith
 
@@ -120,7 +122,8 @@ module _ (line : ℕ → List ℕ) where
           let e : end - k ≡ 0 = omega (arith, ltb-false k end q) in
           absurd (h (rw e (ap (λ (g : Page). g .next) (page-none room k))))
 
-  pub filled-falls : {r : Filled} {lent left : List ℕ} (k end : ℕ) → Fills r lent left (page line (length lent) k (end - k)) → r .next ≢ k → end - r .next < end - k
+  pub filled-falls : {r : Filled} {lent left : List ℕ} (k end : ℕ) → Fills r lent left (page line (length lent) k (end - k)) → r .next ≢ k
+      → end - r .next < end - k
   filled-falls {r} {lent} {left} k end h z = omega (arith, h .next, falls (length lent) k end (λ e. z (h .next ∙ e)))
 
   -- the pages of a text, where a buffer takes each line, are the text

@@ -1,8 +1,8 @@
--- Every word that was run is a word of the trace. Assumes nothing.
+-- No more words were run than the trace has. Assumes nothing.
 use mathlib.Core.Bool.{Bool, true, false, cond}
 use mathlib.Core.Path.{_≡_, refl}
 use mathlib.Core.List.{List}
-use Prim.Native.Nat.{ℕ, _+_, _*_, _/_, _≤_, _<_}
+use Prim.Native.Nat.{ℕ, _/_, _≤_}
 use native.Mathlib.Omega.{arith}
 use lib.Dec.{ltb}
 use lib.ListN.{length}
@@ -15,6 +15,3 @@ run-most trace figure = go (ltb (length trace / 2) figure) refl
     go : (e : Bool) → ltb (length trace / 2) figure ≡ e → cond e (length trace / 2) figure ≤ length trace / 2
     go true q = omega arith
     go false q = ltb-false (length trace / 2) figure q
-
-pub inside : (trace : List ℕ) (figure i : ℕ) → i < wordsRun trace figure → 2 * i + 1 < length trace
-inside trace figure i h = omega (arith, run-most trace figure)

@@ -6,14 +6,16 @@ use mathlib.Core.List.{List, _++_, append-assoc, append-nil}
 use Prim.Native.Nat.{ℕ, zero, suc, _+_, _-_, _/_, _≤_, _<_}
 use native.Mathlib.Nat.{add-zero, sub-zero, le-trans}
 use native.Mathlib.Omega.{arith}
-use lib.ListN.{length, getD, take, drop, List·getD-append}
-use lib.Seq.{sets, sets-eq}
+use lib.ListN.{length, getD, take, drop}
+use lib.Seq.{sets, getD-take}
 use borrow.Author.Tests.{lt-ltb, le-ltb, eq-eqb, ne-eqb}
-use Rattle.beliefs.specs.declared.Report.{Report}
-use Rattle.beliefs.specs.Account.{Account, Reports}
+use Rattle.answers.specs.declared.Report.{Report}
+use Rattle.answers.specs.Account.{Account, Reports}
 use Rattle.beliefs.specs.Policy.{readNumber, valueRead}
-use Rattle.beliefs.specs.Trace.{run}
-use Rattle.beliefs.proofs.Counts.{Answered, run-answered}
+use Rattle.beliefs.specs.Trace.{runRefusal, run}
+use Rattle.beliefs.proofs.Lists.{front}
+use Rattle.beliefs.proofs.Runs.{Answered}
+use Rattle.beliefs.proofs.Counts.{run-answered}
 use Rattle.policy.specs.Read.{PolicyRead, cutAt}
 use Rattle.lines.specs.Text.{policyLine, wordLine, lastLine, refusedLine, joined, listed, listedRun, read, listing}
 use Rattle.lines.specs.Page.{wordsRun, places, lineAt, pages}
@@ -47,7 +49,7 @@ module _ (p trace answers : List ℕ) (r : Report) (h : r .figure ≤ length tra
   all-run : wordsRun trace (r .figure) ≡ r .figure
   all-run = rw (le-ltb (length trace / 2) (r .figure) h)
 
-  word-line : (i : ℕ) → i < r .figure → lineAt p trace answers r (1 + i) ≡ wordLine trace answers (0 + i)
+  word-line : (i : ℕ) → i < r .figure → lineAt p trace answers r (1 + i) ≡ wordLine p trace answers (0 + i)
   unfolding lineAt
   word-line i l =
       let e : 1 + i - 1 ≡ 0 + i = omega arith in
@@ -59,9 +61,9 @@ module _ (p trace answers : List ℕ) (r : Report) (h : r .figure ≤ length tra
       let e : 0 + suc (r .figure) - 1 ≡ r .figure = omega arith in
       rw (ne-eqb (0 + suc (r .figure)) 0 (λ q. absurd (omega arith)), all-run, e, le-ltb (r .figure) (r .figure) (omega arith))
 
-  first-lines : joined (lineAt p trace answers r) 0 (suc (r .figure)) ≡ policyLine p ++ joined (wordLine trace answers) 0 (r .figure)
+  first-lines : joined (lineAt p trace answers r) 0 (suc (r .figure)) ≡ policyLine p ++ joined (wordLine p trace answers) 0 (r .figure)
   unfolding joined lineAt
-  first-lines = ap (λ (l : List ℕ). policyLine p ++ l) (joined-same (lineAt p trace answers r) (wordLine trace answers) (r .figure) 1 0 word-line)
+  first-lines = ap (λ (l : List ℕ). policyLine p ++ l) (joined-same (lineAt p trace answers r) (wordLine p trace answers) (r .figure) 1 0 word-line)
 
   -- the policy's line, those of the words that were run, the last
   pub listed-places : joined (lineAt p trace answers r) 0 (places trace r) ≡ listed p trace answers (r .number) (r .figure)
@@ -73,24 +75,26 @@ module _ (p trace answers : List ℕ) (r : Report) (h : r .figure ≤ length tra
 
 -- more room than words is as good as enough
 run-room : (p trace : List ℕ) (room : ℕ) → length trace / 2 ≤ room → run true p trace room ≡ run true p trace (length trace / 2)
-unfolding run
+unfolding run runRefusal
 run-room p trace room h = rw (le-ltb room (length trace / 2) h, le-ltb (length trace / 2) (length trace / 2) (omega arith))
 
 -- the answers stand at the front of the lent buffer
-front : (lent w : List ℕ) (i : ℕ) → i < length w → length w ≤ length lent → getD (sets lent 0 w) i 0 ≡ getD w i 0
-front lent w i h k = rw (sets-eq w lent 0 (omega arith)) (List·getD-append w (drop (0 + length w) lent) 0 i h)
+front-at : (lent w : List ℕ) (i : ℕ) → i < length w → length w ≤ length lent → getD (sets lent 0 w) i 0 ≡ getD w i 0
+front-at lent w i h k = sym (getD-take (length w) (sets lent 0 w) i 0 h) ∙ ap (λ (l : List ℕ). getD l i 0) (front lent w k)
 
-answers-same : (trace lent w : List ℕ) → length w ≤ length lent → joined (wordLine trace (sets lent 0 w)) 0 (length w) ≡ joined (wordLine trace w) 0 (length w)
+answers-same : (p trace lent w : List ℕ) → length w ≤ length lent
+    → joined (wordLine p trace (sets lent 0 w)) 0 (length w) ≡ joined (wordLine p trace w) 0 (length w)
 unfolding wordLine
-answers-same trace lent w k =
-    joined-same (wordLine trace (sets lent 0 w)) (wordLine trace w) (length w) 0 0 (λ i h. rw (front lent w (0 + i) (omega arith) k))
+answers-same p trace lent w k =
+    joined-same (wordLine p trace (sets lent 0 w)) (wordLine p trace w) (length w) 0 0 (λ i h. rw (front-at lent w (0 + i) (omega arith) k))
 
 listed-same : (p trace lent w : List ℕ) (n : ℕ) → length w ≤ length lent → listed p trace (sets lent 0 w) n (length w) ≡ listed p trace w n (length w)
 unfolding listed
-listed-same p trace lent w n k = ap (λ (l : List ℕ). policyLine p ++ l ++ lastLine n (length w)) (answers-same trace lent w k)
+listed-same p trace lent w n k = ap (λ (l : List ℕ). policyLine p ++ l ++ lastLine n (length w)) (answers-same p trace lent w k)
 
 -- what `fill` makes of what a run promises, page after page, through a buffer that takes the longest line: the listing of that run
-pub run-text : (p trace lent left : List ℕ) (r : Report) (room : ℕ) → length trace / 2 ≤ length lent → Reports r lent left (run true p trace (length lent)) → 80 ≤ room
+pub run-text : (p trace lent left : List ℕ) (r : Report) (room : ℕ) → length trace / 2 ≤ length lent
+    → Reports r lent left (run true p trace (length lent)) → 80 ≤ room
     → pages (lineAt p trace left r) room (places trace r) (places trace r) 0 ≡ listedRun p trace (run true p trace (length trace / 2))
 run-text p trace lent left r room h t k =
     let a : Account = run true p trace (length lent) in

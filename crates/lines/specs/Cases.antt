@@ -4,10 +4,10 @@ use mathlib.Core.List.{List, [], _∷_}
 use Prim.Native.Nat.{ℕ}
 use Rattle.bits.specs.Bit.{bit, withBit, withoutBit, below, lowest}
 use Rattle.beliefs.specs.Lists.{each}
-use Rattle.beliefs.specs.Policy.{permits, rowFits, valid, mirrored, rowOf, rowsOf, readNumber, valueRead}
+use Rattle.beliefs.specs.Policy.{permits, rowFits, valid, refusal, mirrored, rowOf, rowsOf, readNumber, valueRead}
 use Rattle.beliefs.specs.Stack.{called, enable, disable, revert, granted, walk}
-use Rattle.beliefs.specs.Words.{operationOf, strayIn, outsideOf, decoded}
-use Rattle.beliefs.specs.Trace.{step, runFrom, run}
+use Rattle.words.specs.Words.{operationOf, strayIn, outside, barred, decoded}
+use Rattle.beliefs.specs.Trace.{does, runFrom, runRefusal, run}
 use Rattle.policy.specs.Read.{cutAt}
 use Rattle.lines.specs.Text.{digits, decimal, policyLine, checkLine, endLine, refusedLine, wordLine, joined, listed, read, listing}
 
@@ -15,7 +15,8 @@ use Rattle.lines.specs.Text.{digits, decimal, policyLine, checkLine, end
 abbrev pub recording : List ℕ
 recording =
     0x08 ∷ 0x10 ∷ 0xC0 ∷ 0x80 ∷ 0x00
-    ∷ 0x00 ∷ 0x00 ∷ 0x40 ∷ 0x00 ∷ 0x01 ∷ 0x00 ∷ 0xA0 ∷ 0x00 ∷ 0xA0 ∷ 0x04 ∷ 0x60 ∷ 0x00 ∷ 0xA0 ∷ 0x00 ∷ 0x80 ∷ 0x00 ∷ 0xA0 ∷ 0x00 ∷ 0x20 ∷ 0x00 ∷ 0xA0 ∷ 0x00 ∷ []
+    ∷ 0x00 ∷ 0x00 ∷ 0x40 ∷ 0x00 ∷ 0x01 ∷ 0x00 ∷ 0xA0 ∷ 0x00 ∷ 0xA0 ∷ 0x04 ∷ 0x60 ∷ 0x00
+    ∷ 0xA0 ∷ 0x00 ∷ 0x80 ∷ 0x00 ∷ 0xA0 ∷ 0x00 ∷ 0x20 ∷ 0x00 ∷ 0xA0 ∷ 0x00 ∷ []
 
 -- the lines of document 01
 abbrev pub text : List ℕ
@@ -30,5 +31,7 @@ text =
     ∷ []
 
 pub proved : listing recording ≡ text
-unfolding listing read listed joined wordLine refusedLine endLine checkLine policyLine decimal digits cutAt run runFrom step called enable disable revert granted walk decoded operationOf strayIn outsideOf permits valid rowFits each mirrored rowOf rowsOf readNumber valueRead bit withBit withoutBit below lowest
+unfolding listing read listed joined wordLine refusedLine endLine checkLine policyLine decimal digits cutAt
+    run runRefusal runFrom does called enable disable revert granted walk decoded operationOf strayIn outside barred permits
+    refusal valid rowFits each mirrored rowOf rowsOf readNumber valueRead bit withBit withoutBit below lowest
 proved = refl

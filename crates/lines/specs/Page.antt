@@ -4,7 +4,9 @@ use mathlib.Core.List.{List, [], _++_}
 use Prim.Native.Nat.{ℕ, zero, suc, _+_, _-_, _/_}
 use lib.Dec.{eqb, ltb}
 use lib.ListN.{length}
-use Rattle.beliefs.specs.declared.Report.{Report}
+use Rattle.answers.specs.declared.Report.{Report}
+use Rattle.beliefs.specs.Policy.{Policy}
+use Rattle.policy.specs.Read.{least}
 use Rattle.lines.specs.Text.{policyLine, wordLine, lastLine}
 
 -- the place where the next page begins, and this page's bytes
@@ -25,18 +27,22 @@ page line room k (suc n) =
 
 -- the words that a report says were run, of those that the trace has
 abbrev pub wordsRun : List ℕ → ℕ → ℕ
-wordsRun trace figure = cond (ltb (length trace / 2) figure) (length trace / 2) figure
+wordsRun trace figure = least (length trace / 2) figure
 
 -- places of a listing: the policy's line at 0, word i at i + 1, then the last line
 abbrev pub places : List ℕ → Report → ℕ
 places trace r = wordsRun trace (r .figure) + 2
 
 -- the line at a place
-unfoldable pub lineAt : List ℕ → List ℕ → List ℕ → Report → ℕ → List ℕ
+unfoldable pub lineAt : Policy → List ℕ → List ℕ → Report → ℕ → List ℕ
 lineAt p trace answers r k =
     cond (eqb k 0)
     (policyLine p)
-    (cond (ltb (k - 1) (wordsRun trace (r .figure))) (wordLine trace answers (k - 1)) (lastLine (r .number) (r .figure)))
+    (cond (ltb (k - 1) (wordsRun trace (r .figure))) (wordLine p trace answers (k - 1)) (lastLine (r .number) (r .figure)))
+
+-- the page of a listing from a place on, through a buffer of so much room
+abbrev pub pageFrom : Policy → List ℕ → List ℕ → Report → ℕ → ℕ → Page
+pageFrom p trace answers r room k = page (lineAt p trace answers r) room k (places trace r - k)
 
 -- at most f pages from place k on, each through a buffer of the same room, one after another
 unfoldable pub pages : (ℕ → List ℕ) → ℕ → ℕ → ℕ → ℕ → List ℕ

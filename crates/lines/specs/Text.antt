@@ -1,15 +1,19 @@
 -- "The listing program": its text, byte by byte in ASCII.
 use mathlib.Core.Bool.{Bool, true, cond}
 use mathlib.Core.List.{List, [], _∷_, _++_}
-use Prim.Native.Nat.{ℕ, zero, suc, _+_, _*_, _/_, _%_}
+use Prim.Native.Nat.{ℕ, zero, suc, _+_, _/_, _%_}
 use lib.Dec.{eqb, ltb}
 use lib.ListN.{length, getD, take, drop}
-use Rattle.beliefs.specs.Account.{Account}
-use Rattle.beliefs.specs.Numbers.{leftOver}
-use Rattle.beliefs.specs.Policy.{signers, targets, readNumber, valueRead}
+use Rattle.answers.specs.Account.{Account}
+use Rattle.answers.specs.Numbers.{leftOver}
+use Rattle.words.specs.declared.Operation.{Operation}
+use Rattle.words.specs.declared.Operation.the-variants.{Call, Return, Enable, Disable, Revert, Check}
+use Rattle.words.specs.declared.Decoded.{Decoded}
+use Rattle.words.specs.declared.Decoded.the-variants.{Word, Refused}
+use Rattle.words.specs.Words.{wordAt}
+use Rattle.beliefs.specs.Policy.{Policy, signers, targets, reading, readNumber, valueRead}
 use Rattle.beliefs.specs.Stack.{full}
 use Rattle.beliefs.specs.Trace.{run}
-use Rattle.beliefs.specs.Words.{wordOperation, wordTarget}
 use Rattle.policy.specs.Read.{cutAt}
 
 -- the character of a digit: 0 is 48
@@ -55,7 +59,7 @@ verdict isGranted =
     cond isGranted (103 ∷ 114 ∷ 97 ∷ 110 ∷ 116 ∷ 101 ∷ 100 ∷ 32 ∷ []) (102 ∷ 111 ∷ 114 ∷ 98 ∷ 105 ∷ 100 ∷ 100 ∷ 101 ∷ 110 ∷ 32 ∷ [])
 
 -- "First line: S, N, start"
-unfoldable pub policyLine : List ℕ → List ℕ
+unfoldable pub policyLine : Policy → List ℕ
 policyLine p = policyWord ++ item (signers p) space ++ item (targets p) space ++ start (full p)
 
 -- "word index, target, verdict, frames looked at": the last two are the answer byte's kind, of which 1 is granted, and count
@@ -72,13 +76,23 @@ refusedLine number i = refusedWord ++ item number space ++ item i newline
 abbrev pub lastLine : ℕ → ℕ → List ℕ
 lastLine number figure = cond (eqb number 0) (endLine figure) (refusedLine number figure)
 
--- the word at an index, its first byte the high one
-abbrev pub wordAt : List ℕ → ℕ → ℕ
-wordAt trace i = 256 * getD trace (2 * i) 0 + getD trace (2 * i + 1) 0
+-- "one line for each check": an operation's line, by the index of its word and its answer byte; nothing for another operation
+abbrev pub opLine : Operation → ℕ → ℕ → List ℕ
+opLine (Call s) i answer = []
+opLine Return i answer = []
+opLine (Enable t) i answer = []
+opLine (Disable t) i answer = []
+opLine (Revert t) i answer = []
+opLine (Check t) i answer = checkLine i t answer
 
--- "one line for each check": operation 5, and nothing for another word
-unfoldable pub wordLine : List ℕ → List ℕ → ℕ → List ℕ
-wordLine trace answers i = cond (eqb (wordOperation (wordAt trace i)) 5) (checkLine i (wordTarget (wordAt trace i)) (getD answers i 0)) []
+-- a decoded word's line. A word that is refused has no line of its own: it ends the run, and the last line says so
+abbrev pub decodedLine : Decoded → ℕ → List ℕ
+decodedLine (Word x) answer = opLine (x .op) (x .index) answer
+decodedLine (Refused n) answer = []
+
+-- the line of the word at an index of a trace
+unfoldable pub wordLine : Policy → List ℕ → List ℕ → ℕ → List ℕ
+wordLine p trace answers i = decodedLine (reading p (wordAt trace i) i) (getD answers i 0)
 
 -- the lines at n places from place k on, one after another
 unfoldable pub joined : (ℕ → List ℕ) → ℕ → ℕ → List ℕ
@@ -86,13 +100,14 @@ joined line k zero = []
 joined line k (suc n) = line k ++ joined line (suc k) n
 
 -- the listing of a run that gave these answers: the number that refused it, or 0, and how many words were run
-unfoldable pub listed : List ℕ → List ℕ → List ℕ → ℕ → ℕ → List ℕ
-listed p trace answers number figure = policyLine p ++ joined (wordLine trace answers) 0 figure ++ lastLine number figure
+unfoldable pub listed : Policy → List ℕ → List ℕ → ℕ → ℕ → List ℕ
+listed p trace answers number figure = policyLine p ++ joined (wordLine p trace answers) 0 figure ++ lastLine number figure
 
-abbrev pub listedRun : List ℕ → List ℕ → Account → List ℕ
+abbrev pub listedRun : Policy → List ℕ → Account → List ℕ
 listedRun p trace a = listed p trace (a .written) (a .number) (a .figure)
 
--- a policy's bytes and a trace's, run from a fresh start by the walk, which alone counts frames; "a refused policy prints only `refused`, its number and 0"
+-- a policy's bytes and a trace's, run from a fresh start by the walk, which alone counts frames;
+-- "a refused policy prints only `refused`, its number and 0"
 unfoldable pub read : List ℕ → List ℕ → List ℕ
 read policy trace =
     cond (eqb (readNumber policy) 0)

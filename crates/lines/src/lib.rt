@@ -1,18 +1,18 @@
 // The text of a listing: its lines, and the pages that a buffer of any size takes of them.
 ghost use mathlib.Core.Path.{_≡_};
-ghost use Prim.Native.Nat.{_+_, _-_, _*_, _/_, _≤_, _<_};
+ghost use Prim.Native.Nat.{_+_, _≤_};
 ghost use lib.ListN.{length, take, getD};
 ghost use Rattle.lines.specs.Text.{decimal, item, start, verdict};
 ghost use Rattle.lines.specs.Text.{policyLine, checkLine, endLine, refusedLine, lastLine, wordLine};
-ghost use Rattle.lines.specs.Page.{wordsRun, places, lineAt, page};
+ghost use Rattle.lines.specs.Page.{wordsRun, lineAt, pageFrom};
 ghost use Rattle.lines.specs.Promise.{Puts, Lined, Fills};
-use beliefs::Report;
+use answers::Report;
+use policy::Policy;
+use words::Decoded;
+use words::Operation;
 
 // Room for the longest line: three numbers of at most 20 digits, and "forbidden" between them.
 pub const LINE_MOST: usize = 80;
-
-// The operation of a word that is a check.
-const CHECK: u16 = 5;
 
 // Where the next page begins, and how many bytes this one has.
 pub struct Filled {
@@ -84,7 +84,7 @@ fn put_verdict(out: &mut [u8], at: usize, granted: bool) -> usize
 }
 
 // The policy's line; this and the lines below go to the front of a buffer with room for any line.
-fn put_policy(policy: &[u64; 35], line: &mut [u8]) -> usize
+fn put_policy(policy: &Policy, line: &mut [u8]) -> usize
     requires { ⌜ 80 ≤ length (now line) ⌝ }
     ensures { λ r. ⌜ Puts (now (line .entry)) (now (line .exit)) 0 r (policyLine (now (policy .entry))) ⌝ }
 {
@@ -136,7 +136,7 @@ fn deliver(line: &[u8], len: usize, out: &mut [u8]) -> usize
 }
 
 // The policy's line. Each of these four answers how many bytes it wrote: none where the buffer is too short for the line.
-pub fn policy_line(policy: &[u64; 35], out: &mut [u8]) -> usize
+pub fn policy_line(policy: &Policy, out: &mut [u8]) -> usize
     ensures { λ r. ⌜ Lined r (now (out .entry)) (now (out .exit)) (policyLine (now (policy .entry))) ⌝ }
 {
     let mut line = [0u8; LINE_MOST];
@@ -194,19 +194,20 @@ fn answer_at(answers: &[u8], index: usize) -> u8
     }
 }
 
-// A word's line where it is a check, nothing where it is not.
-fn put_word(trace: &[u8], answers: &[u8], index: usize, line: &mut [u8]) -> usize
-    requires { ⌜ (2 * index + 1 < length (now trace)) × (80 ≤ length (now line)) ⌝ }
-    ensures { λ r. ⌜ Puts (now (line .entry)) (now (line .exit)) 0 r (wordLine (now (trace .entry)) (now (answers .entry)) index) ⌝ }
+// A word's line where it is a check, nothing where it is not, or is refused.
+fn put_word(policy: &Policy, trace: &[u8], answers: &[u8], index: usize, line: &mut [u8]) -> usize
+    requires { ⌜ 80 ≤ length (now line) ⌝ }
+    ensures { λ r. ⌜ Puts (now (line .entry)) (now (line .exit)) 0 r (wordLine (now (policy .entry)) (now (trace .entry)) (now (answers .entry)) index) ⌝ }
 {
-    let high = trace[2 * index] as u16;
-    let low = trace[2 * index + 1] as u16;
-    let word = 256 * high + low;
-    if word / 8192 != CHECK {
+    let decoded = policy::decode(policy, words::word_at(trace, index), index);
+    let Decoded::Word(w) = decoded else {
         return 0;
+    };
+    let op = w.op;
+    match op {
+        Operation::Check(target) => put_check(w.index, target, answer_at(answers, index), line),
+        _ => 0,
     }
-    let target = (word / 4 % 64) as u8;
-    put_check(index, target, answer_at(answers, index), line)
 }
 
 // The last line, by a run's report.
@@ -214,7 +215,7 @@ fn put_last(report: Report, line: &mut [u8]) -> usize
     requires { ⌜ 80 ≤ length (now line) ⌝ }
     ensures { λ r. ⌜ Puts (now (line .entry)) (now (line .exit)) 0 r (lastLine (report .number) (report .figure)) ⌝ }
 {
-    if report.number == beliefs::ACCEPTED {
+    if report.number == answers::ACCEPTED {
         put_end(report.figure, line)
     } else {
         put_refused(report.number, report.figure, line)
@@ -223,7 +224,7 @@ fn put_last(report: Report, line: &mut [u8]) -> usize
 
 // The line at a place of the listing: the policy's, those of the words that were run, the last.
 fn put_at(
-    policy: &[u64; 35],
+    policy: &Policy,
     trace: &[u8],
     answers: &[u8],
     report: Report,
@@ -237,21 +238,22 @@ fn put_at(
         return put_policy(policy, line);
     }
     if place - 1 < words_run(trace, report.figure) {
-        return put_word(trace, answers, place - 1, line);
+        return put_word(policy, trace, answers, place - 1, line);
     }
     put_last(report, line)
 }
 
 // A page of the listing of a run: as many whole lines from a place on as the buffer takes. A buffer of LINE_MOST bytes takes at least one.
 pub fn fill(
-    policy: &[u64; 35],
+    policy: &Policy,
     trace: &[u8],
     answers: &[u8],
     report: Report,
     from: usize,
     out: &mut [u8],
 ) -> Filled
-    ensures { λ r. ⌜ Fills r (now (out .entry)) (now (out .exit)) (page (lineAt (now (policy .entry)) (now (trace .entry)) (now (answers .entry)) report) (length (now (out .entry))) from (places (now (trace .entry)) report - from)) ⌝ }
+    ensures { λ r. ⌜ Fills r (now (out .entry)) (now (out .exit))
+        (pageFrom (now (policy .entry)) (now (trace .entry)) (now (answers .entry)) report (length (now (out .entry))) from) ⌝ }
 {
     let mut line = [0u8; LINE_MOST];
     let end = words_run(trace, report.figure) + 2;

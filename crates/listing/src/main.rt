@@ -1,7 +1,8 @@
 // The listing program: reads a policy followed by a trace, and prints what became of each check.
-use beliefs::Report;
+use answers::Report;
 use libc::STDIN_FILENO;
 use libc::STDOUT_FILENO;
+use policy::Policy;
 
 // The longest input, which is also the length of the buffers for input and output.
 const INPUT_MOST: usize = 65536;
@@ -20,7 +21,7 @@ fn print_refused(number: u8) {
 }
 
 // One write for each page. It stops where the text ends, or where the output takes no more.
-fn print_pages(policy: &[u64; 35], trace: &[u8], answers: &[u8], report: Report) {
+fn print_pages(policy: &Policy, trace: &[u8], answers: &[u8], report: Report) {
     let mut page = io::large_buffer();
     let mut place: usize = 0;
     loop {
@@ -37,7 +38,7 @@ fn print_pages(policy: &[u64; 35], trace: &[u8], answers: &[u8], report: Report)
 }
 
 // Runs the trace, with room for an answer to each word of the longest input.
-fn print_run(policy: &[u64; 35], trace: &[u8]) {
+fn print_run(policy: &Policy, trace: &[u8]) {
     let mut answers = [0u8; 32768];
     let report = runner::walk_run(policy, trace, &mut answers);
     print_pages(policy, trace, &answers, report);
@@ -45,10 +46,10 @@ fn print_run(policy: &[u64; 35], trace: &[u8]) {
 
 // The policy, and where it is accepted the run of the trace after it.
 fn print_listing(input: &[u8]) {
-    let mut policy = [0u64; 35];
+    let mut policy = [0u64; policy::WORDS];
     let cut = policy::cut(input);
     let number = policy::read(&input[..cut], &mut policy);
-    if number != beliefs::ACCEPTED {
+    if number != answers::ACCEPTED {
         print_refused(number);
         return;
     }
@@ -59,7 +60,7 @@ fn main() {
     let mut input = io::large_buffer();
     let len = io::read_full(STDIN_FILENO, &mut input);
     if len == INPUT_MOST && more_follows() {
-        print_refused(beliefs::LEFT_OVER);
+        print_refused(answers::LEFT_OVER);
         return;
     }
     print_listing(&input[..len]);

@@ -1,5 +1,4 @@
 pub mod Fits
 pub mod Kept
-pub mod Serves
-pub mod Exists
+pub mod Live
 pub mod Unique

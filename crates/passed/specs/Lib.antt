@@ -1,3 +1,4 @@
--- The passed state: its operations on four words, and what it pictures of the belief sets.
-pub mod State
-pub mod Picture
+-- The passed state: which four words are let through, what an operation does to them, and what they picture of the belief sets.
+pub mod Fits
+pub mod Does
+pub mod Pictures

@@ -1,8 +1,10 @@
 // The passed state: what a frame needs to know of its callers, a bit for each target. It goes down with a call as an argument.
 ghost use mathlib.Core.Path.{_≡_};
-ghost use Rattle.passed.specs.State.{grantedOf, callOf, enableOf, disableOf, revertOf, checkOf, barredOf, nothingIn, bitsFit, passedFits, outsideOf, refusalOf};
-ghost use Rattle.passed.specs.Picture.{Begins, Passes};
-use beliefs::Operation;
+ghost use Rattle.passed.specs.Fits.{nothingIn, bitsFit, fits};
+ghost use Rattle.passed.specs.Does.{refusedBy, grantedOf, callOf, enableOf, disableOf, revertOf, checkOf};
+ghost use Rattle.passed.specs.Pictures.{Begins, Passes};
+use policy::Policy;
+use words::Operation;
 
 // A word with no bit set.
 const NO_TARGETS: u64 = 0;
@@ -41,7 +43,7 @@ impl Passed {
     }
 
     // The targets that a check would be granted, a bit each.
-    fn granted(self, policy: &[u64; 35]) -> u64
+    fn granted(self, policy: &Policy) -> u64
         ensures { λ r. ⌜ r ≡ grantedOf (now (policy .entry)) self ⌝ }
     {
         let permitted = policy::row(policy, self.signer);
@@ -51,10 +53,10 @@ impl Passed {
     }
 
     // The callee's state; at depth 63, where a call is refused, the state as it was.
-    pub fn call(self, policy: &[u64; 35], signer: u8) -> Self
+    pub fn call(self, policy: &Policy, signer: u8) -> Self
         ensures { λ r. ⌜ r ≡ callOf (now (policy .entry)) self signer ⌝ }
     {
-        if beliefs::DEPTH_MOST <= self.depth {
+        if words::DEPTH_MOST <= self.depth {
             return self;
         }
         if self.depth == 0 {
@@ -100,7 +102,7 @@ impl Passed {
     }
 
     // Whether the frame's signer is permitted the target, and the frame has it as its own or from its callers.
-    pub fn check(self, policy: &[u64; 35], target: u8) -> bool
+    pub fn check(self, policy: &Policy, target: u8) -> bool
         ensures { λ r. ⌜ r ≡ checkOf (now (policy .entry)) self target ⌝ }
     {
         let granted = self.granted(policy);
@@ -108,34 +110,12 @@ impl Passed {
     }
 }
 
-// 7 where there is no frame and the operation is not call, 8 for a call at depth 63, 0 for neither.
-fn barred(depth: u64, op: Operation) -> u8
-    ensures { λ r. ⌜ r ≡ barredOf depth op ⌝ }
-{
-    match op {
-        Operation::Call(_) => {
-            if beliefs::DEPTH_MOST <= depth {
-                beliefs::TOO_DEEP
-            } else {
-                beliefs::ACCEPTED
-            }
-        }
-        _ => {
-            if depth == 0 {
-                beliefs::NO_FRAME
-            } else {
-                beliefs::ACCEPTED
-            }
-        }
-    }
-}
-
 // What an operation of the policy's signers and targets does: 7, 8, else where it leads.
-pub fn serve(policy: &[u64; 35], s: Passed, op: Operation) -> Next
+pub fn serve(policy: &Policy, s: Passed, op: Operation) -> Next
     ensures { λ r. ⌜ Passes (now (policy .entry)) s op r ⌝ }
 {
-    let number = barred(s.depth, op);
-    if number != 0 {
+    let number = words::barred(s.depth, op);
+    if number != answers::ACCEPTED {
         return Next::Refused(number);
     }
     match op {
@@ -146,7 +126,7 @@ pub fn serve(policy: &[u64; 35], s: Passed, op: Operation) -> Next
         Operation::Revert(target) => Next::Stay(s.revert(target), DONE),
         Operation::Check(target) => Next::Stay(
             s,
-            beliefs::verdict_byte(s.check(policy, target), 0),
+            answers::verdict_byte(s.check(policy, target), 0),
         ),
     }
 }
@@ -178,13 +158,13 @@ fn bits_fit(s: Passed, n: u64) -> bool
 }
 
 // Whether number 14 does not refuse the state.
-pub fn valid(policy: &[u64; 35], s: Passed) -> bool
-    ensures { λ r. ⌜ r ≡ passedFits (now (policy .entry)) s ⌝ }
+pub fn valid(policy: &Policy, s: Passed) -> bool
+    ensures { λ r. ⌜ r ≡ fits (now (policy .entry)) s ⌝ }
 {
     if s.depth == 0 {
         return nothing(s);
     }
-    if beliefs::DEPTH_MOST < s.depth {
+    if words::DEPTH_MOST < s.depth {
         return false;
     }
     if policy::signers(policy) <= s.signer {
@@ -193,47 +173,9 @@ pub fn valid(policy: &[u64; 35], s: Passed) -> bool
     bits_fit(s, policy::targets(policy))
 }
 
-// 5 for a signer outside the policy's, 6 for a target, 0 for neither.
-fn outside(policy: &[u64; 35], op: Operation) -> u8
-    ensures { λ r. ⌜ r ≡ outsideOf (now (policy .entry)) op ⌝ }
-{
-    let signers = policy::signers(policy);
-    let targets = policy::targets(policy);
-    match op {
-        Operation::Call(signer) => {
-            if (signer as u64) < signers {
-                beliefs::ACCEPTED
-            } else {
-                beliefs::NO_SIGNER
-            }
-        }
-        Operation::Return => beliefs::ACCEPTED,
-        Operation::Enable(target)
-        | Operation::Disable(target)
-        | Operation::Revert(target)
-        | Operation::Check(target) => {
-            if (target as u64) < targets {
-                beliefs::ACCEPTED
-            } else {
-                beliefs::NO_TARGET
-            }
-        }
-    }
-}
-
 // What refuses an operation on any policy and state: 13, 14, 5 or 6, 7, 8, else 0. The methods above do what is let through.
-pub fn refusal(policy: &[u64; 35], s: Passed, op: Operation) -> u8
-    ensures { λ r. ⌜ r ≡ refusalOf (now (policy .entry)) s op ⌝ }
+pub fn refusal(policy: &Policy, s: Passed, op: Operation) -> u8
+    ensures { λ r. ⌜ r ≡ refusedBy (now (policy .entry)) s op ⌝ }
 {
-    if !policy::valid(policy) {
-        return beliefs::BAD_POLICY;
-    }
-    if !valid(policy, s) {
-        return beliefs::BAD_STATE;
-    }
-    let number = outside(policy, op);
-    if number != 0 {
-        return number;
-    }
-    barred(s.depth, op)
+    policy::refusal_of(policy, valid(policy, s), s.depth, op)
 }

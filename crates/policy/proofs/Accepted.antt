@@ -10,7 +10,7 @@ use borrow.Author.Tests.{le-ltb, ltb-false, eq-eqb, eqb-true}
 use Rattle.bits.specs.Bit.{below}
 use Rattle.beliefs.specs.Lists.{all}
 use Rattle.beliefs.specs.Policy.{header, headSigners, headTargets, headSpare, size, rowsRead, readNumber}
-use Rattle.beliefs.proofs.Refusals.{spared, met}
+use Rattle.answers.proofs.Numbers.{spared, met}
 
 pub record Accepted (bs : List ℕ) : Type 0 where
   pub headed : 2 ≤ length bs

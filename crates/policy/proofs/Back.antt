@@ -1,6 +1,6 @@
 -- There and back, row by row and then for a whole policy: reading undoes writing, and writing undoes reading. Assumes nothing.
 use mathlib.Core.Path.{_≡_, refl, sym, ap, _∙_}
-use mathlib.Core.Bool.{Bool, true, false, cond}
+use mathlib.Core.Bool.{true, cond}
 use mathlib.Core.List.{List, [], _∷_}
 use Prim.Native.Nat.{ℕ, zero, suc, _+_, _-_, _*_, _/_, _%_, _^_, _≤_, _<_}
 use native.Mathlib.Decide.{decLt}
@@ -12,14 +12,16 @@ use lib.Pow.{pow-mono}
 use lib.Seq.{take-at, drop-at, drop-cons, getD-drop, sets}
 use borrow.Author.Tests.{ltb-true, ltb-false, lt-ltb, le-ltb}
 use Rattle.bits.specs.Bit.{below}
-use Rattle.beliefs.specs.declared.Report.{Report}
-use Rattle.beliefs.specs.Account.{Reports, told}
-use Rattle.beliefs.specs.Numbers.{noRoom, badPolicy}
-use Rattle.beliefs.specs.Policy.{start, signers, targets, row, rowFits, valid, width, size, mirrored, rowOf, rowBytes, rowsOf, rowsBytes}
+use Rattle.answers.specs.declared.Report.{Report}
+use Rattle.answers.specs.Numbers.{first}
+use Rattle.answers.specs.Account.{Reports, shortOf}
+use Rattle.answers.proofs.Numbers.{spared, neither}
+use Rattle.answers.proofs.Given.{passed}
+use Rattle.beliefs.specs.Policy.{start, signers, targets, row, rowFits, valid, refusal, width, size, mirrored, rowOf, rowBytes, rowsOf, rowsBytes}
 use Rattle.beliefs.specs.Policy.{header, headStart, headSigners, headTargets, headed, rowsRead, valueRead, bytesWritten, writing}
 use Rattle.policy.specs.Read.{Bytes}
 use Rattle.beliefs.proofs.Lists.{each-of, all-at, all-of}
-use Rattle.beliefs.proofs.Policy.{Ranges, row-below, row-none}
+use Rattle.beliefs.proofs.Policy.{Ranges, row-below, row-none, let-in}
 use Rattle.policy.proofs.Rows.{mirrored-lt, mirrored-twice, pow-byte, length-rows}
 use Rattle.policy.proofs.Accepted.{Accepted}
 use Rattle.policy.proofs.Value.{value-start, value-signers, value-targets, value-row}
@@ -200,13 +202,12 @@ pub record Wrote (p lent left : List ℕ) (w : Report) : Type 0 where
 
 pub wrote : (p lent left : List ℕ) (w : Report) → Reports w lent left (writing p (length lent)) → w .number ≡ 0 → Wrote p lent left w
 unfolding writing
-wrote p lent left w r e = go (valid p) (ltb (length lent) wanted) refl refl r
-  where
-    wanted : ℕ
-    wanted = size (signers p) (targets p)
-
-    go : (v f : Bool) → valid p ≡ v → ltb (length lent) wanted ≡ f
-        → Reports w lent left (cond v (cond f (told noRoom 0) (record { number = 0; figure = wanted; written = bytesWritten p })) (told badPolicy 0)) → Wrote p lent left w
-    go false f h k q = absurd (omega (arith, q .number, e))
-    go true true h k q = absurd (omega (arith, q .number, e))
-    go true false h k q = record { fine = h; room = ltb-false _ _ k; figure = q .figure; buffer = q .buffer }
+wrote p lent left w r e =
+    let fine = passed (first (refusal p) (shortOf (size (signers p) (targets p)) (length lent))) _ w lent left r e in
+    let tests = neither (refusal p) _ (fine .0) in
+    record {
+      fine = let-in p (tests .0);
+      room = ltb-false _ _ (spared (ltb (length lent) (size (signers p) (targets p))) 8 0 (tests .1) .0);
+      figure = fine .1 .figure;
+      buffer = fine .1 .buffer;
+    }

@@ -37,7 +37,8 @@ rows-parted p v few h =
     let all : s - 0 ≡ s = omega arith in
     ap (each (rowFits p)) (omega arith) ∙ each-sum (rowFits p) s past
     ∙ ap₂ (λ (x y : Bool). x && y)
-    (each-ext (rowFits p) (λ i. below (row p (0 + i)) (targets p)) s (λ i l. let e : 0 + i ≡ i = omega arith in rw (lt-ltb i s l, e)) ∙ sym (rw all at (h .holds (targets p))))
+    (each-ext (rowFits p) (λ i. below (row p (0 + i)) (targets p)) s (λ i l. let e : 0 + i ≡ i = omega arith in rw (lt-ltb i s l, e))
+    ∙ sym (rw all at (h .holds (targets p))))
     (each-ext (λ i. rowFits p (s + i)) (λ i. below (row p (s + i)) 0) past (λ i l. rw (le-ltb (s + i) s (omega arith)) (sym (below-none (row p (s + i))))))
 
 -- rows together are nothing where none of them has a bit

@@ -56,7 +56,8 @@ bit-row (a ∷ bs) t b h = go (decLt t 8) (bit-row bs (t - 8) (λ i. b (suc i)))
     n : ℕ
     n = mirrored a + 256 * rowOf bs
 
-    go : Dec (t < 8) → (t - 8 < 8 * length bs → bit (rowOf bs) (t - 8) ≡ bit (getD bs ((t - 8) / 8) 0) (7 - (t - 8) % 8)) → bit n t ≡ bit (getD (a ∷ bs) (t / 8) 0) (7 - t % 8)
+    go : Dec (t < 8) → (t - 8 < 8 * length bs → bit (rowOf bs) (t - 8) ≡ bit (getD bs ((t - 8) / 8) 0) (7 - (t - 8) % 8))
+        → bit n t ≡ bit (getD (a ∷ bs) (t / 8) 0) (7 - t % 8)
     go (yes l) ih =
         let m : n % 256 ≡ mirrored a = omega (arith, mirrored-lt a) in
         let e : t / 8 ≡ 0 = omega arith in
@@ -77,6 +78,8 @@ permits-read bs b e s t l m =
     let k = width (headTargets (header bs)) in
     let at = 2 + s * k in
     let row = take k (drop at bs) in
-    let long : length row ≡ k = length-take-le k (drop at bs) (omega (arith, length-drop at bs, row-within (headSigners (header bs)) k s l, accepted bs e .whole)) in
+    let long : length row ≡ k = length-take-le k (drop at bs)
+    (omega (arith, length-drop at bs, row-within (headSigners (header bs)) k s l, accepted bs e .whole)) in
     let byte : getD row (t / 8) 0 ≡ getD bs (at + t / 8) 0 = getD-take k (drop at bs) (t / 8) 0 (omega arith) ∙ getD-drop at bs (t / 8) 0 in
-    rw (value-row bs s, row-at (headSigners (header bs)) k bs s l, ← byte) (bit-row row t (bytes-take k (drop at bs) (bytes-drop at bs b)) (omega (arith, long)))
+    rw (value-row bs s, row-at (headSigners (header bs)) k bs s l, ← byte)
+    (bit-row row t (bytes-take k (drop at bs) (bytes-drop at bs b)) (omega (arith, long)))

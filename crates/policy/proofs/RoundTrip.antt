@@ -7,12 +7,12 @@ use native.Mathlib.Omega.{arith}
 use lib.ListN.{length, take}
 use lib.Seq.{ext-getD}
 use borrow.Author.Tests.{le-ltb, eq-eqb}
-use Rattle.beliefs.specs.declared.Report.{Report}
-use Rattle.beliefs.specs.Account.{Reports}
+use Rattle.answers.specs.declared.Report.{Report}
+use Rattle.answers.specs.Account.{Reports}
 use Rattle.beliefs.specs.Policy.{signers, targets, size, valid, readNumber, valueRead, bytesWritten, writing}
 use Rattle.policy.specs.Read.{PolicyRead, Bytes}
 use Rattle.beliefs.proofs.Lists.{front}
-use Rattle.beliefs.proofs.Policy.{ranges, ranges-valid}
+use Rattle.beliefs.proofs.Policy.{ranges, ranges-valid, not-refused}
 use Rattle.policy.proofs.Accepted.{accepted, accepted-number}
 use Rattle.policy.proofs.Value.{value-signers, value-targets, length-value}
 use Rattle.policy.proofs.Back.{word-read, written-length, accepted-back, value-ranges, written, wrote}
@@ -24,7 +24,8 @@ read-back p l v =
     (accepted-number (bytesWritten p) (accepted-back p l r), ext-getD 0 _ _ (length-value (bytesWritten p) ∙ sym l) (λ i h. word-read p l r i))
 
 -- Accepted bytes are read as a valid value, and they are that value's bytes.
-pub written-back : (bs : List ℕ) → Bytes bs → readNumber bs ≡ 0 → (valid (valueRead bs) ≡ true) × ((length (valueRead bs) ≡ 35) × (bytesWritten (valueRead bs) ≡ bs))
+pub written-back : (bs : List ℕ) → Bytes bs → readNumber bs ≡ 0
+    → (valid (valueRead bs) ≡ true) × ((length (valueRead bs) ≡ 35) × (bytesWritten (valueRead bs) ≡ bs))
 written-back bs b e =
     let a = accepted bs e in
     (ranges-valid (valueRead bs) (value-ranges bs b a), (length-value bs, written bs b a))
@@ -50,12 +51,14 @@ read-after-write p lent left w l r e kept value n q =
 
 -- And bytes that `read` accepts stand again at the front of the buffer that `write` leaves for their value.
 pub write-after-read : (bs kept value : List ℕ) (n : ℕ) → Bytes bs → PolicyRead bs kept n value → n ≡ 0
-    → (lent left : List ℕ) (w : Report) → length bs ≤ length lent → Reports w lent left (writing value (length lent)) → (w .number ≡ 0) × (take (w .figure) left ≡ bs)
+    → (lent left : List ℕ) (w : Report) → length bs ≤ length lent → Reports w lent left (writing value (length lent))
+    → (w .number ≡ 0) × (take (w .figure) left ≡ bs)
 unfolding writing
 write-after-read bs kept value n b q e lent left w h r =
     let number : readNumber bs ≡ 0 = sym (q .number) ∙ e in
     let is : value ≡ valueRead bs = value-of bs kept value (rw e at q) in
     let back = written-back bs b number in
-    let wanted : size (signers (valueRead bs)) (targets (valueRead bs)) ≡ length bs = rw (value-signers bs, value-targets bs) (sym (accepted bs number .whole)) in
-    let account = rw (is, back .0, wanted, le-ltb (length lent) (length bs) h, back .1 .1) at r in
+    let wanted : size (signers (valueRead bs)) (targets (valueRead bs)) ≡ length bs =
+    rw (value-signers bs, value-targets bs) (sym (accepted bs number .whole)) in
+    let account = rw (is, wanted, eq-eqb _ _ (not-refused _ (back .0)), le-ltb (length lent) (length bs) h, back .1 .1) at r in
     (account .number, rw (account .figure, account .buffer) (front lent bs h))

@@ -1,12 +1,14 @@
 -- Each promise fixes its result, and what is left in what is lent: of two that both keep it, one is the other. Assumes nothing.
 use Rattle.bits.proofs.Unique.{Fixes, one-result, alone}
-use Rattle.beliefs.proofs.Unique.{reports-unique}
+use Rattle.answers.proofs.Unique.{reports-unique}
 use Rattle.policy.proofs.is_full as is-full
 use Rattle.policy.proofs.start_marks as start-marks
 use Rattle.policy.proofs.signers as signers
 use Rattle.policy.proofs.targets as targets
 use Rattle.policy.proofs.row as row
-use Rattle.policy.proofs.valid as valid
+use Rattle.policy.proofs.refusal as refusal
+use Rattle.policy.proofs.refusal_of as refusal-of
+use Rattle.policy.proofs.decode as decode
 use Rattle.policy.proofs.cut as cut
 use Rattle.policy.proofs.read as read
 use Rattle.policy.proofs.write as write
@@ -26,8 +28,14 @@ targets-unique _ _ _ _ _ _ = alone
 pub row-unique : Fixes row.ended row.Reads.Post
 row-unique _ _ _ _ _ _ = alone
 
-pub valid-unique : Fixes valid.ended valid.Reads.Post
-valid-unique _ _ _ _ _ _ = alone
+pub refusal-unique : Fixes refusal.ended refusal.Reads.Post
+refusal-unique _ _ _ _ _ _ = alone
+
+pub refusal-of-unique : Fixes refusal-of.ended refusal-of.Reads.Post
+refusal-of-unique _ _ _ _ _ _ = alone
+
+pub decode-unique : Fixes decode.ended decode.Reads.Post
+decode-unique _ _ _ _ _ _ = alone
 
 pub cut-unique : Fixes cut.ended cut.Reads.Post
 cut-unique _ _ _ _ _ _ = alone

@@ -38,13 +38,20 @@ put-turn l at k n w h =
 
 -- the rows are stored from the first to the last: one of them, and the rest after it
 pub put-rows-turn : (l p : List ℕ) (n k s : ℕ) → length p ≡ 35 → n ≤ 32 → s < n
-    → sets (sets l (2 + s * k) (rowBytes k (row p s))) (2 + (s + 1) * k) (rowsBytes k (drop (s + 1) (take n (drop 3 p)))) ≡ sets l (2 + s * k) (rowsBytes k (drop s (take n (drop 3 p))))
+    → sets (sets l (2 + s * k) (rowBytes k (row p s))) (2 + (s + 1) * k) (rowsBytes k (drop (s + 1) (take n (drop 3 p))))
+    ≡ sets l (2 + s * k) (rowsBytes k (drop s (take n (drop 3 p))))
 unfolding rowsBytes
 put-rows-turn l p n k s h m o =
     let ws = take n (drop 3 p) in
     let e : s + 1 ≡ suc s = omega arith in
     let f : 2 + suc s * k ≡ 2 + s * k + length (rowBytes k (row p s)) = omega (arith, length-row-bytes k (row p s), suc-mul s k) in
-    rw (e, f, sets-more l (2 + s * k) (rowBytes k (row p s)) (rowsBytes k (drop (suc s) ws)), drop-cons ws s 0 (omega (arith, length-rows-of p n h m)), row-written p n s o)
+    rw (
+      e,
+      f,
+      sets-more l (2 + s * k) (rowBytes k (row p s)) (rowsBytes k (drop (suc s) ws)),
+      drop-cons ws s 0 (omega (arith, length-rows-of p n h m)),
+      row-written p n s o,
+    )
 
 -- after the last of them
 pub rows-put : (l p : List ℕ) (n k s i : ℕ) → n ≤ s → sets l i (rowsBytes k (drop s (take n (drop 3 p)))) ≡ l

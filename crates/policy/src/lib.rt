@@ -6,22 +6,29 @@ ghost use lib.ListN.{length, getD, take, drop};
 ghost use lib.Seq.{sets};
 ghost use Rattle.bits.specs.Bit.{below};
 ghost use Rattle.beliefs.specs.Lists.{all, each};
-ghost use Rattle.beliefs.specs.Account.{Reports};
-ghost use Rattle.beliefs.specs.Policy.{signers, targets, row, within, rowFits, valid};
+ghost use Rattle.answers.specs.Account.{Reports};
+ghost use Rattle.beliefs.specs.Policy.{signers, targets, row, within, rowFits, valid, refusal, refusalIn, refusalOf, reading};
 ghost use Rattle.beliefs.specs.Policy.{width, size, mirrored, rowOf, rowBytes, rowsOf, rowsBytes, header, headSigners, headTargets, headed};
 ghost use Rattle.beliefs.specs.Policy.{readNumber, valueRead, bytesWritten, writing};
 ghost use Rattle.beliefs.specs.Stack.{full, startMarks};
 ghost use Rattle.policy.specs.Read.{PolicyRead, Together, cutAt};
+use words::Decoded;
+use words::Operation;
+
+// A policy's words: start, S, N, and the rows of 32 signers.
+pub const WORDS: usize = 35;
+
+pub type Policy = [u64; WORDS];
 
 // Whether the start is full.
-pub fn is_full(policy: &[u64; 35]) -> bool
+pub fn is_full(policy: &Policy) -> bool
     ensures { λ r. ⌜ r ≡ full (now (policy .entry)) ⌝ }
 {
     policy[0] == 1
 }
 
 // What a start hands a bottom frame: a bit for each of the N targets under a full start, nothing under an empty one.
-pub fn start_marks(policy: &[u64; 35]) -> u64
+pub fn start_marks(policy: &Policy) -> u64
     ensures { λ r. ⌜ r ≡ startMarks (now (policy .entry)) ⌝ }
 {
     if is_full(policy) {
@@ -32,21 +39,21 @@ pub fn start_marks(policy: &[u64; 35]) -> u64
 }
 
 // S.
-pub fn signers(policy: &[u64; 35]) -> u64
+pub fn signers(policy: &Policy) -> u64
     ensures { λ r. ⌜ r ≡ signers (now (policy .entry)) ⌝ }
 {
     policy[1]
 }
 
 // N.
-pub fn targets(policy: &[u64; 35]) -> u64
+pub fn targets(policy: &Policy) -> u64
     ensures { λ r. ⌜ r ≡ targets (now (policy .entry)) ⌝ }
 {
     policy[2]
 }
 
 // The targets that a signer is permitted, a bit each: none for a signer over 31.
-pub fn row(policy: &[u64; 35], signer: u64) -> u64
+pub fn row(policy: &Policy, signer: u64) -> u64
     ensures { λ r. ⌜ r ≡ row (now (policy .entry)) signer ⌝ }
 {
     // As a slice, so that its length is known.
@@ -58,7 +65,7 @@ pub fn row(policy: &[u64; 35], signer: u64) -> u64
 }
 
 // The bits of the rows from one up to another, together. Two tests of many rows are quicker than one for each row.
-fn rows_together(policy: &[u64; 35], from: u64, to: u64) -> u64
+fn rows_together(policy: &Policy, from: u64, to: u64) -> u64
     requires { ⌜ from ≤ to ⌝ }
     ensures { λ r. ⌜ Together (now (policy .entry)) from (to - from) r ⌝ }
 {
@@ -72,7 +79,7 @@ fn rows_together(policy: &[u64; 35], from: u64, to: u64) -> u64
 }
 
 // Whether the rows are as number 13 asks: below S no target at N or above, from S on nothing.
-fn rows_fit(policy: &[u64; 35]) -> bool
+fn rows_fit(policy: &Policy) -> bool
     requires { ⌜ signers (now policy) ≤ 32 ⌝ }
     ensures { λ r. ⌜ r ≡ each (rowFits (now (policy .entry))) 32 ⌝ }
 {
@@ -90,7 +97,7 @@ fn in_range(n: u64, most: u64) -> bool
 }
 
 // Whether number 13 does not refuse the value.
-pub fn valid(policy: &[u64; 35]) -> bool
+fn valid(policy: &Policy) -> bool
     ensures { λ r. ⌜ r ≡ valid (now (policy .entry)) ⌝ }
 {
     if 1 < policy[0] {
@@ -103,6 +110,46 @@ pub fn valid(policy: &[u64; 35]) -> bool
         return false;
     }
     rows_fit(policy)
+}
+
+// The front door: what refuses a policy, 13.
+pub fn refusal(policy: &Policy) -> u8
+    ensures { λ r. ⌜ r ≡ refusal (now (policy .entry)) ⌝ }
+{
+    answers::unless(valid(policy), answers::BAD_POLICY)
+}
+
+// What refuses a state under it, which number 14 lets through or not: 13, 14.
+fn refusal_in(policy: &Policy, fits: bool) -> u8
+    ensures { λ r. ⌜ r ≡ refusalIn (now (policy .entry)) fits ⌝ }
+{
+    let number = refusal(policy);
+    if number != answers::ACCEPTED {
+        return number;
+    }
+    answers::unless(fits, answers::BAD_STATE)
+}
+
+// What refuses an operation of any signer or target in a state of so many frames: 13, 14, 5 or 6, 7, 8.
+pub fn refusal_of(policy: &Policy, fits: bool, depth: u64, op: Operation) -> u8
+    ensures { λ r. ⌜ r ≡ refusalOf (now (policy .entry)) fits depth op ⌝ }
+{
+    let number = refusal_in(policy, fits);
+    if number != answers::ACCEPTED {
+        return number;
+    }
+    let outside = words::outside(signers(policy), targets(policy), op);
+    if outside != answers::ACCEPTED {
+        return outside;
+    }
+    words::barred(depth, op)
+}
+
+// A word under the policy: 4, 3, 5 or 6, else its operation with its index.
+pub fn decode(policy: &Policy, word: u16, index: usize) -> Decoded
+    ensures { λ r. ⌜ r ≡ reading (now (policy .entry)) word index ⌝ }
+{
+    words::decode(signers(policy), targets(policy), word, index)
 }
 
 // How many bytes a row of n targets has.
@@ -203,25 +250,25 @@ fn read_number(bytes: &[u8]) -> u8
     ensures { λ r. ⌜ r ≡ readNumber (now (bytes .entry)) ⌝ }
 {
     if bytes.len() < 2 {
-        return beliefs::TOO_FEW;
+        return answers::TOO_FEW;
     }
     let h = header(bytes);
     if h % 16 != 0 {
-        return beliefs::BIT_SET;
+        return answers::BIT_SET;
     }
     let rows = head_signers(h);
     let n = head_targets(h);
     let wanted = size(rows, n) as usize;
     if bytes.len() < wanted {
-        return beliefs::TOO_FEW;
+        return answers::TOO_FEW;
     }
     if wanted < bytes.len() {
-        return beliefs::LEFT_OVER;
+        return answers::LEFT_OVER;
     }
     if !padding_clear(bytes, rows, width(n), n) {
-        return beliefs::BIT_SET;
+        return answers::BIT_SET;
     }
-    beliefs::ACCEPTED
+    answers::ACCEPTED
 }
 
 // How many bytes at the front of a recording are its policy's, by the header: the trace begins there. All of them where the
@@ -242,7 +289,7 @@ pub fn cut(bytes: &[u8]) -> usize
 }
 
 // The value that accepted bytes say, into the policy.
-fn store(bytes: &[u8], policy: &mut [u64; 35])
+fn store(bytes: &[u8], policy: &mut Policy)
     requires { ⌜ readNumber (now bytes) ≡ 0 ⌝ }
     ensures { λ _. ⌜ now (policy .exit) ≡ valueRead (now (bytes .entry)) ⌝ }
 {
@@ -263,19 +310,19 @@ fn store(bytes: &[u8], policy: &mut [u64; 35])
 }
 
 // A policy from its bytes. Where they are refused the value is left as it was lent.
-pub fn read(bytes: &[u8], policy: &mut [u64; 35]) -> u8
+pub fn read(bytes: &[u8], policy: &mut Policy) -> u8
     ensures { λ r. ⌜ PolicyRead (now (bytes .entry)) (now (policy .entry)) r (now (policy .exit)) ⌝ }
 {
     let number = read_number(bytes);
-    if number != beliefs::ACCEPTED {
+    if number != answers::ACCEPTED {
         return number;
     }
     store(bytes, policy);
-    beliefs::ACCEPTED
+    answers::ACCEPTED
 }
 
 // The header of a valid policy as one number.
-fn headed(policy: &[u64; 35]) -> u64
+fn headed(policy: &Policy) -> u64
     requires { ⌜ valid (now policy) ≡ true ⌝ }
     ensures { λ r. ⌜ r ≡ headed (now (policy .entry)) ⌝ }
 {
@@ -297,7 +344,7 @@ fn put_row(bytes: &mut [u8], at: usize, wide: u64, row: u64)
 }
 
 // The bytes of the S rows, after the header's.
-fn put_rows(policy: &[u64; 35], wide: u64, bytes: &mut [u8])
+fn put_rows(policy: &Policy, wide: u64, bytes: &mut [u8])
     requires { ⌜ (signers (now policy) ≤ 32) × (2 + signers (now policy) * wide ≤ length (now bytes)) ⌝ }
     ensures { λ _. ⌜ now (bytes .exit) ≡ sets (now (bytes .entry)) 2 (rowsBytes wide (take (signers (now (policy .entry))) (drop 3 (now (policy .entry))))) ⌝ }
 {
@@ -312,7 +359,7 @@ fn put_rows(policy: &[u64; 35], wide: u64, bytes: &mut [u8])
 }
 
 // The bytes of a valid policy, at the front of a buffer that has room for them.
-fn put(policy: &[u64; 35], bytes: &mut [u8])
+fn put(policy: &Policy, bytes: &mut [u8])
     requires { ⌜ (valid (now policy) ≡ true) × (size (signers (now policy)) (targets (now policy)) ≤ length (now bytes)) ⌝ }
     ensures { λ _. ⌜ now (bytes .exit) ≡ sets (now (bytes .entry)) 0 (bytesWritten (now (policy .entry))) ⌝ }
 {
@@ -324,25 +371,23 @@ fn put(policy: &[u64; 35], bytes: &mut [u8])
 }
 
 // The policy's one byte form into a lent buffer: 13, 9. No byte past it is touched, and none where the number is not 0.
-pub fn write(policy: &[u64; 35], bytes: &mut [u8]) -> beliefs::Report
+pub fn write(policy: &Policy, bytes: &mut [u8]) -> answers::Report
     ensures { λ r. ⌜ Reports r (now (bytes .entry)) (now (bytes .exit)) (writing (now (policy .entry)) (length (now (bytes .entry)))) ⌝ }
 {
-    if !valid(policy) {
-        return beliefs::Report {
-            number: beliefs::BAD_POLICY,
-            figure: 0,
-        };
+    let number = refusal(policy);
+    if number != answers::ACCEPTED {
+        return answers::Report { number, figure: 0 };
     }
     let wanted = size(signers(policy), targets(policy));
     if bytes.len() < wanted as usize {
-        return beliefs::Report {
-            number: beliefs::NO_ROOM,
+        return answers::Report {
+            number: answers::NO_ROOM,
             figure: 0,
         };
     }
     put(policy, bytes);
-    beliefs::Report {
-        number: beliefs::ACCEPTED,
+    answers::Report {
+        number: answers::ACCEPTED,
         figure: wanted,
     }
 }

@@ -1,12 +1,12 @@
 -- Every and some number below another. Assumes nothing.
-use mathlib.Core.Path.{_≡_, refl, ap, _∙_}
-use mathlib.Core.Bool.{Bool, true, false, _&&_, _||_, or-true}
+use mathlib.Core.Path.{_≡_, refl, sym, ap, _∙_}
+use mathlib.Core.Bool.{Bool, true, false, _&&_, _||_, or-true, and-or-distrib-right}
 use mathlib.Core.Logic.{_≢_}
 use Prim.Native.Nat.{ℕ, zero, suc, _<_}
 use native.Mathlib.Omega.{arith}
 use lib.Dec.{eqb}
 use borrow.Author.Tests.{eqb-true, eqb-false, eq-eqb}
-use Rattle.record.specs.Record.{some}
+use Rattle.record.specs.Does.{some}
 
 module _ (f : ℕ → Bool) where
   pub some-false : (n : ℕ) → ((k : ℕ) → k < n → f k ≡ false) → some f n ≡ false
@@ -31,14 +31,8 @@ some-ext f g (suc n) h = rw (some-ext f g n (λ k l. h k (omega arith)), h n (om
 -- over a sum
 mix : (x y a b e : Bool) → ((x || y) || ((a || b) && e)) ≡ ((x || (a && e)) || (y || (b && e)))
 mix true y a b e = refl
-mix false true true b true = refl
-mix false true true b false = refl
-mix false true false b e = refl
-mix false false true true true = refl
-mix false false true true false = refl
-mix false false true false true = refl
-mix false false true false false = refl
-mix false false false b e = refl
+mix false true a b e = sym (or-true (a && e))
+mix false false a b e = and-or-distrib-right a b e
 
 pub some-or : (f g e : ℕ → Bool) (n : ℕ) → some (λ k. (f k || g k) && e k) n ≡ (some (λ k. f k && e k) n || some (λ k. g k && e k) n)
 unfolding some

@@ -1,9 +1,8 @@
 pub mod Below
-pub mod Runs
-pub mod Tried
+pub mod Frames
 pub mod Chains
+pub mod Fits
+pub mod Tried
 pub mod Kept
-pub mod Served
-pub mod Exists
-pub mod Stays
+pub mod Live
 pub mod Unique

@@ -7,13 +7,14 @@ use native.Mathlib.Numerals.{add-one}
 use native.Mathlib.Decide.{decLt}
 use native.Mathlib.Omega.{arith}
 use Rattle.bits.specs.Bit.{bit}
-use Rattle.beliefs.specs.Policy.{permits}
+use Rattle.beliefs.specs.Policy.{Policy, Target, permits}
 use Rattle.beliefs.proofs.Lists.{each-more, each-false}
-use Rattle.record.specs.Record.{depth, signerAt, held, newestPermitted, grantedIn}
+use Rattle.record.specs.Layout.{depth, signerAt, held}
+use Rattle.record.specs.Does.{newestPermitted, grantedIn}
 use Rattle.record.proofs.Below.{some-false, some-true}
 
 -- the lengths below k were tried, none is held, and the k newest frames are permitted
-module _ (p : List ℕ) (t : ℕ) (s : List ℕ) (k : ℕ) where
+module _ (p : Policy) (t : Target) (s : List ℕ) (k : ℕ) where
   abbrev permitted : Bool
   permitted = permits p (signerAt s (depth s - 1 - k)) t
 
@@ -31,6 +32,6 @@ module _ (p : List ℕ) (t : ℕ) (s : List ℕ) (k : ℕ) where
       some-true (λ i. bit (held s t) i && newestPermitted p t s (suc i)) (depth s) k l
       (rw (b, ← add-one k) (each-more (λ j. permits p (signerAt s (depth s - 1 - j)) t) k h e))
 
-pub tried-none : (p : List ℕ) (t : ℕ) (s : List ℕ) → ((i : ℕ) → i < depth s → bit (held s t) i ≡ false) → grantedIn p t s ≡ false
+pub tried-none : (p : Policy) (t : Target) (s : List ℕ) → ((i : ℕ) → i < depth s → bit (held s t) i ≡ false) → grantedIn p t s ≡ false
 unfolding grantedIn
 tried-none p t s none = some-false (λ i. bit (held s t) i && newestPermitted p t s (suc i)) (depth s) (λ i l. rw (none i l))

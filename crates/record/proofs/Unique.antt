@@ -1,6 +1,6 @@
 -- Each promise fixes its result and what is left in the lent words: of two that both keep it, one is the other. Assumes nothing.
 use Rattle.bits.proofs.Unique.{Fixes, alone}
-use Rattle.beliefs.proofs.Unique.{gives-unique, operated-unique}
+use Rattle.answers.proofs.Unique.{gives-unique, operated-unique}
 use Rattle.record.proofs.valid as valid
 use Rattle.record.proofs.serve as serve
 use Rattle.record.proofs.operate as operate

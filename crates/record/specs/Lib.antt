@@ -1,2 +1,4 @@
-pub mod Record
+pub mod Layout
+pub mod Fits
+pub mod Does
 pub mod Pictures

@@ -1,35 +1,61 @@
 // The belief record: for each frame and target, which chain lengths are held, one bit of a word for each length.
 ghost use mathlib.Core.Path.{_≡_};
-ghost use mathlib.Core.Bool.{cond, false};
-ghost use Prim.Native.Nat.{_+_, _-_, _*_, _≤_, _<_};
+ghost use mathlib.Core.Bool.{cond};
+ghost use Prim.Native.Nat.{_+_, _-_, _≤_, _<_};
 ghost use lib.Dec.{ltb};
+ghost use Rattle.answers.specs.Answer.{done, Gives};
+ghost use Rattle.words.specs.declared.Operation.the-variants.{Call, Check};
 ghost use Rattle.beliefs.specs.Lists.{each};
-ghost use Rattle.beliefs.specs.Engine.{Gives, Serve, Operate};
-ghost use Rattle.record.specs.Record.{depth, signerAt, held, wordsBelow, words, frameFits, recordFits, filled, startTargets, startWord, longer, handed, callIn, clearedIn, returnIn, holdIn, grantedIn, checkIn, stepIn};
-ghost use Rattle.record.specs.Pictures.{Pictures};
-use beliefs::Answer;
-use beliefs::Decoded;
-use beliefs::Operation;
+ghost use Rattle.beliefs.specs.Engine.{acts, byFrame, Serve, Operate};
+ghost use Rattle.record.specs.Layout.{frameFrom, wordsFrom, depth, signerAt, heldAt, held, filled};
+ghost use Rattle.record.specs.Fits.{wordsBelow, words, frameFits, fits};
+ghost use Rattle.record.specs.Does.{startTargets, startWord, longer, begunIn, clearedIn, leftIn, heldIn, grantedIn};
+ghost use Rattle.record.specs.Pictures.{byRecord};
+use answers::Answer;
+use policy::Policy;
+use words::Decoded;
+use words::Operation;
+
+// A state's words: the depth, and those of 63 frames.
+pub const WORDS: usize = 4096;
+
+pub type State = [u64; WORDS];
 
 // The targets that a frame has a word for, and its words: the signer comes first.
 const TARGETS: usize = 64;
 
 const FRAME: usize = 65;
 
+// Where a frame begins, by how many are below it: with its signer.
+fn frame_from(frame: u64) -> usize
+    requires { ⌜ frame ≤ 63 ⌝ }
+    ensures { λ r. ⌜ r ≡ frameFrom frame ⌝ }
+{
+    FRAME * frame as usize + 1
+}
+
+// Where its words for the targets begin.
+fn words_from(frame: u64) -> usize
+    requires { ⌜ frame ≤ 63 ⌝ }
+    ensures { λ r. ⌜ r ≡ wordsFrom frame ⌝ }
+{
+    frame_from(frame) + 1
+}
+
 // The depth, 63 where a damaged state says more.
-fn depth(state: &[u64; 4096]) -> u64
+fn depth(state: &State) -> u64
     ensures { λ r. ⌜ r ≡ depth (now (state .entry)) ⌝ }
 {
     let said = state[0];
-    if said < beliefs::DEPTH_MOST {
+    if said < words::DEPTH_MOST {
         said
     } else {
-        beliefs::DEPTH_MOST
+        words::DEPTH_MOST
     }
 }
 
 // How many frames are below the newest.
-fn newest(state: &[u64; 4096]) -> u64
+fn newest(state: &State) -> u64
     ensures { λ r. ⌜ r ≡ depth (now (state .entry)) - 1 ⌝ }
 {
     let d = depth(state);
@@ -37,26 +63,26 @@ fn newest(state: &[u64; 4096]) -> u64
 }
 
 // The signer of a frame, by how many are below it.
-fn signer(state: &[u64; 4096], frame: u64) -> u64
+fn signer(state: &State, frame: u64) -> u64
     requires { ⌜ frame < 63 ⌝ }
     ensures { λ r. ⌜ r ≡ signerAt (now (state .entry)) frame ⌝ }
 {
-    state[FRAME * frame as usize + 1]
+    state[frame_from(frame)]
 }
 
 // The chain lengths that the newest frame holds on a target, a bit for each: none on a target over 63.
-fn held(state: &[u64; 4096], target: u8) -> u64
+fn held(state: &State, target: u8) -> u64
     ensures { λ r. ⌜ r ≡ held (now (state .entry)) target ⌝ }
 {
     if TARGETS <= target as usize {
         return 0;
     }
-    let first = FRAME * newest(state) as usize + 2;
+    let first = words_from(newest(state));
     state[first + target as usize]
 }
 
 // Whether the words from one index up to another hold no length of n or above.
-fn words_below(state: &[u64; 4096], from: usize, to: usize, n: u64) -> bool
+fn words_below(state: &State, from: usize, to: usize, n: u64) -> bool
     requires { ⌜ (from ≤ to) × (to ≤ 4096) ⌝ }
     ensures { λ r. ⌜ r ≡ wordsBelow (now (state .entry)) from to n ⌝ }
 {
@@ -66,7 +92,7 @@ fn words_below(state: &[u64; 4096], from: usize, to: usize, n: u64) -> bool
 }
 
 // How many of a frame's 64 words are of targets below N.
-fn words(policy: &[u64; 35]) -> usize
+fn words(policy: &Policy) -> usize
     ensures { λ r. ⌜ r ≡ words (now (policy .entry)) ⌝ }
 {
     let n = policy::targets(policy);
@@ -74,14 +100,14 @@ fn words(policy: &[u64; 35]) -> usize
 }
 
 // Whether a frame, by how many are below it, is as number 14 asks.
-fn frame_fits(policy: &[u64; 35], state: &[u64; 4096], frame: u64) -> bool
+fn frame_fits(policy: &Policy, state: &State, frame: u64) -> bool
     requires { ⌜ frame < 63 ⌝ }
     ensures { λ r. ⌜ r ≡ frameFits (now (policy .entry)) (now (state .entry)) frame ⌝ }
 {
     if policy::signers(policy) <= signer(state, frame) {
         return false;
     }
-    let first = FRAME * frame as usize + 2;
+    let first = words_from(frame);
     let outside = first + words(policy);
     if !words_below(state, first, outside, frame + 1) {
         return false;
@@ -90,7 +116,7 @@ fn frame_fits(policy: &[u64; 35], state: &[u64; 4096], frame: u64) -> bool
 }
 
 // Whether every frame is.
-fn frames_fit(policy: &[u64; 35], state: &[u64; 4096]) -> bool
+fn frames_fit(policy: &Policy, state: &State) -> bool
     ensures { λ r. ⌜ r ≡ each (frameFits (now (policy .entry)) (now (state .entry))) (depth (now (state .entry))) ⌝ }
 {
     let d = depth(state);
@@ -106,25 +132,25 @@ fn frames_fit(policy: &[u64; 35], state: &[u64; 4096]) -> bool
 
 // Whether there is nothing but zero in room above the depth. A frame at a time is quicker than all the room at once: the
 // compiler sees how many words there are.
-fn zero_above(state: &[u64; 4096]) -> bool
-    ensures { λ r. ⌜ r ≡ wordsBelow (now (state .entry)) (65 * depth (now (state .entry)) + 1) 4096 0 ⌝ }
+fn zero_above(state: &State) -> bool
+    ensures { λ r. ⌜ r ≡ wordsBelow (now (state .entry)) (frameFrom (depth (now (state .entry)))) 4096 0 ⌝ }
 {
-    let mut frame = depth(state);
-    while frame < beliefs::DEPTH_MOST {
-        let at = FRAME * frame as usize + 1;
+    let mut above = depth(state);
+    while above < words::DEPTH_MOST {
+        let at = frame_from(above);
         if !words_below(state, at, at + FRAME, 0) {
             return false;
         }
-        frame += 1;
+        above += 1;
     }
     true
 }
 
 // Whether number 14 does not refuse the state.
-pub fn valid(policy: &[u64; 35], state: &[u64; 4096]) -> bool
-    ensures { λ r. ⌜ r ≡ recordFits (now (policy .entry)) (now (state .entry)) ⌝ }
+pub fn valid(policy: &Policy, state: &State) -> bool
+    ensures { λ r. ⌜ r ≡ fits (now (policy .entry)) (now (state .entry)) ⌝ }
 {
-    if beliefs::DEPTH_MOST < state[0] {
+    if words::DEPTH_MOST < state[0] {
         return false;
     }
     if !frames_fit(policy, state) {
@@ -141,7 +167,7 @@ fn start_word(target: u64, n: u64) -> u64
 }
 
 // How many targets a start hands over.
-fn start_targets(policy: &[u64; 35]) -> u64
+fn start_targets(policy: &Policy) -> u64
     ensures { λ r. ⌜ r ≡ startTargets (now (policy .entry)) ⌝ }
 {
     if policy::is_full(policy) {
@@ -152,23 +178,24 @@ fn start_targets(policy: &[u64; 35]) -> u64
 }
 
 // The words of a bottom frame.
-fn start(policy: &[u64; 35], state: &mut [u64; 4096])
-    ensures { λ _. ⌜ now (state .exit) ≡ filled 2 (startWord (now (policy .entry))) 64 (now (state .entry)) ⌝ }
+fn start(policy: &Policy, state: &mut State)
+    ensures { λ _. ⌜ now (state .exit) ≡ filled (wordsFrom 0) (startWord (now (policy .entry))) 64 (now (state .entry)) ⌝ }
 {
     let n = start_targets(policy);
+    let first = words_from(0);
     let mut t: usize = 0;
     while t < TARGETS {
-        state[2 + t] = start_word(t as u64, n);
+        state[first + t] = start_word(t as u64, n);
         t += 1;
     }
 }
 
-// The words of the frame above the newest: every chain with the caller's name put in front is one longer.
-fn hand_down(state: &mut [u64; 4096])
-    requires { ⌜ (0 < depth (now state)) × (depth (now state) < 63) ⌝ }
-    ensures { λ _. ⌜ now (state .exit) ≡ filled (65 * depth (now (state .entry)) + 2) (λ t. longer (held (now (state .entry)) t)) 64 (now (state .entry)) ⌝ }
+// The words of the frame above another: every chain with the caller's name put in front is one longer.
+fn hand_down(state: &mut State, caller: u64)
+    requires { ⌜ caller < 62 ⌝ }
+    ensures { λ _. ⌜ now (state .exit) ≡ filled (wordsFrom (caller + 1)) (λ t. longer (heldAt (now (state .entry)) caller t)) 64 (now (state .entry)) ⌝ }
 {
-    let from = FRAME * newest(state) as usize + 2;
+    let from = words_from(caller);
     let mut t: usize = 0;
     while t < TARGETS {
         state[from + FRAME + t] = state[from + t] << 1;
@@ -177,36 +204,38 @@ fn hand_down(state: &mut [u64; 4096])
 }
 
 // The words with which a new frame begins.
-fn begin(policy: &[u64; 35], state: &mut [u64; 4096])
+fn begin(policy: &Policy, state: &mut State)
     requires { ⌜ depth (now state) < 63 ⌝ }
-    ensures { λ _. ⌜ now (state .exit) ≡ filled (65 * depth (now (state .entry)) + 2) (handed (now (policy .entry)) (now (state .entry))) 64 (now (state .entry)) ⌝ }
+    ensures { λ _. ⌜ now (state .exit) ≡ begunIn (now (policy .entry)) (now (state .entry)) ⌝ }
 {
-    if depth(state) == 0 {
+    let d = depth(state);
+    if d == 0 {
         start(policy, state)
     } else {
-        hand_down(state)
+        hand_down(state, d - 1)
     }
 }
 
-// Call: the new frame's words, its signer, and the depth is one more.
-fn call(policy: &[u64; 35], state: &mut [u64; 4096], signer: u8) -> Answer
-    ensures { λ r. ⌜ Gives r (now (state .exit)) (callIn (now (policy .entry)) signer (now (state .entry))) ⌝ }
+// Call: the new frame's words, its signer, and the depth is one more: 8.
+fn call(policy: &Policy, state: &mut State, signer: u8) -> Answer
+    ensures { λ r. ⌜ Gives r (now (state .exit)) (acts byRecord (now (policy .entry)) (Call signer) (now (state .entry))) ⌝ }
 {
     let d = depth(state);
-    if beliefs::DEPTH_MOST <= d {
-        return Answer::refused(beliefs::TOO_DEEP);
+    let number = words::deeper(d);
+    if number != answers::ACCEPTED {
+        return Answer::refused(number);
     }
     begin(policy, state);
-    state[FRAME * d as usize + 1] = signer as u64;
+    state[frame_from(d)] = signer as u64;
     state[0] = d + 1;
     Answer::done()
 }
 
 // The newest frame's words become zero, so that the next frame at its depth finds nothing of it.
-fn clear(state: &mut [u64; 4096])
+fn clear(state: &mut State)
     ensures { λ _. ⌜ now (state .exit) ≡ clearedIn (now (state .entry)) ⌝ }
 {
-    let at = FRAME * newest(state) as usize + 1;
+    let at = frame_from(newest(state));
     let mut i: usize = 0;
     while i < FRAME {
         state[at + i] = 0;
@@ -214,37 +243,39 @@ fn clear(state: &mut [u64; 4096])
     }
 }
 
-// Return: the newest frame goes.
-fn leave(state: &mut [u64; 4096]) -> Answer
-    ensures { λ r. ⌜ Gives r (now (state .exit)) (returnIn (now (state .entry))) ⌝ }
+// Return: the newest frame goes: 7.
+fn leave(state: &mut State) -> Answer
+    ensures { λ r. ⌜ Gives r (now (state .exit)) (byFrame byRecord (done (leftIn (now (state .entry)))) (now (state .entry))) ⌝ }
 {
     let d = depth(state);
-    if d == 0 {
-        return Answer::refused(beliefs::NO_FRAME);
+    let number = words::framed(d);
+    if number != answers::ACCEPTED {
+        return Answer::refused(number);
     }
     clear(state);
     state[0] = d - 1;
     Answer::done()
 }
 
-// Enable, disable or revert: the newest frame's word for a target becomes another.
-fn hold(state: &mut [u64; 4096], target: u8, word: u64) -> Answer
-    ensures { λ r. ⌜ Gives r (now (state .exit)) (holdIn target word (now (state .entry))) ⌝ }
+// Enable, disable or revert: the newest frame's word for a target becomes another: 7.
+fn hold(state: &mut State, target: u8, word: u64) -> Answer
+    ensures { λ r. ⌜ Gives r (now (state .exit)) (byFrame byRecord (done (heldIn target word (now (state .entry)))) (now (state .entry))) ⌝ }
 {
-    if depth(state) == 0 {
-        return Answer::refused(beliefs::NO_FRAME);
+    let number = words::framed(depth(state));
+    if number != answers::ACCEPTED {
+        return Answer::refused(number);
     }
     if TARGETS <= target as usize {
         return Answer::done();
     }
-    let first = FRAME * newest(state) as usize + 2;
+    let first = words_from(newest(state));
     state[first + target as usize] = word;
     Answer::done()
 }
 
 // Whether a chain held on the target has only permitted frames. Length k is tried with the newest k + 1 frames, so the
 // first that is not permitted ends it.
-fn granted(policy: &[u64; 35], state: &[u64; 4096], target: u8) -> bool
+fn granted(policy: &Policy, state: &State, target: u8) -> bool
     ensures { λ r. ⌜ r ≡ grantedIn (now (policy .entry)) target (now (state .entry)) ⌝ }
 {
     let asked = bits::with(0, target);
@@ -263,20 +294,21 @@ fn granted(policy: &[u64; 35], state: &[u64; 4096], target: u8) -> bool
     false
 }
 
-// Check, by the newest frame. This engine counts no frames.
-fn check(policy: &[u64; 35], state: &[u64; 4096], target: u8) -> Answer
-    ensures { λ r. ⌜ Gives r (now (state .entry)) (checkIn (now (policy .entry)) target (now (state .entry))) ⌝ }
+// Check, by the newest frame: 7. This engine counts no frames.
+fn ask(policy: &Policy, state: &State, target: u8) -> Answer
+    ensures { λ r. ⌜ Gives r (now (state .entry)) (acts byRecord (now (policy .entry)) (Check target) (now (state .entry))) ⌝ }
 {
-    if depth(state) == 0 {
-        return Answer::refused(beliefs::NO_FRAME);
+    let number = words::framed(depth(state));
+    if number != answers::ACCEPTED {
+        return Answer::refused(number);
     }
     let given = granted(policy, state, target);
     Answer::verdict(given, 0)
 }
 
-// One operation that the caller has decoded, refused by 7 or 8.
-pub fn serve(policy: &[u64; 35], state: &mut [u64; 4096], op: Operation) -> Answer
-    ensures { λ r. ⌜ Serve (Pictures (now (policy .entry))) false 4096 (now (policy .entry)) (now (state .entry)) op r (now (state .exit)) (stepIn (now (policy .entry)) (now (state .entry)) op) ⌝ }
+// One operation that the caller has decoded.
+pub fn serve(policy: &Policy, state: &mut State, op: Operation) -> Answer
+    ensures { λ r. ⌜ Serve byRecord (now (policy .entry)) (now (state .entry)) op r (now (state .exit)) ⌝ }
 {
     // As a slice, so that its length is known.
     let whole: &[u64] = state;
@@ -286,27 +318,28 @@ pub fn serve(policy: &[u64; 35], state: &mut [u64; 4096], op: Operation) -> Answ
         Operation::Enable(t) => hold(state, t, bits::with(held(state, t), 0)),
         Operation::Disable(t) => hold(state, t, 0),
         Operation::Revert(t) => hold(state, t, bits::without(held(state, t), 0)),
-        Operation::Check(t) => check(policy, state, t),
+        Operation::Check(t) => ask(policy, state, t),
     }
 }
 
 // One operation word, refused by 13, 14, 4, 3, 5 or 6, 7, 8; the answer byte is written where it is accepted.
-pub fn operate(policy: &[u64; 35], state: &mut [u64; 4096], word: u16, answer: &mut u8) -> u8
-    ensures { λ r. ⌜ Operate (Pictures (now (policy .entry))) false (recordFits (now (policy .entry)) (now (state .entry))) (stepIn (now (policy .entry)) (now (state .entry))) (now (policy .entry)) (now (state .entry)) word r (now (answer .entry)) (now (answer .exit)) (now (state .exit)) ⌝ }
+pub fn operate(policy: &Policy, state: &mut State, word: u16, answer: &mut u8) -> u8
+    ensures { λ r. ⌜ Operate byRecord (now (policy .entry)) (now (state .entry)) word (now (answer .entry)) r (now (answer .exit)) (now (state .exit)) ⌝ }
 {
-    if !policy::valid(policy) {
-        return beliefs::BAD_POLICY;
+    let number = policy::refusal(policy);
+    if number != answers::ACCEPTED {
+        return number;
     }
     if !valid(policy, state) {
-        return beliefs::BAD_STATE;
+        return answers::BAD_STATE;
     }
-    let decoded = beliefs::decode(policy::signers(policy), policy::targets(policy), word, 0);
+    let decoded = policy::decode(policy, word, 0);
     let Decoded::Word(w) = decoded else {
-        return beliefs::number(decoded);
+        return words::number(decoded);
     };
     let op = w.op;
     let done = serve(policy, state, op);
-    if done.number == beliefs::ACCEPTED {
+    if done.number == answers::ACCEPTED {
         *answer = done.byte;
     }
     done.number

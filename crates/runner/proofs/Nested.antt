@@ -7,64 +7,67 @@ use Prim.Native.Nat.{ℕ, _+_, _*_, _≤_, _<_}
 use native.Mathlib.Omega.{arith}
 use lib.ListN.{length, set}
 use Rattle.bits.proofs.Laws.{never}
-use Rattle.beliefs.specs.declared.Word.{Word as Held}
-use Rattle.beliefs.specs.declared.Decoded.{Decoded}
-use Rattle.beliefs.specs.declared.Decoded.the-variants.{Word, Refused as Bad}
-use Rattle.beliefs.specs.Stack.{Frame}
-use Rattle.beliefs.specs.Words.{numberOf}
-use Rattle.beliefs.specs.Trace.{Outcome, answerByte, step}
+use Rattle.words.specs.declared.Word.{Word as Held}
+use Rattle.words.specs.declared.Decoded.{Decoded}
+use Rattle.words.specs.declared.Decoded.the-variants.{Word, Refused as Bad}
+use Rattle.beliefs.specs.Policy.{Policy}
+use Rattle.beliefs.specs.Stack.{Stack}
+use Rattle.words.specs.Words.{numberOf}
+use Rattle.answers.specs.Answer.{Moved}
+use Rattle.beliefs.specs.Trace.{below, step}
 use Rattle.passed.specs.declared.Passed.{Passed}
 use Rattle.passed.specs.declared.Next.{Next}
 use Rattle.passed.specs.declared.Next.the-variants.{Stay, Down, Up, Refused}
-use Rattle.passed.specs.Picture.{PassedOf, below, Goes, Passes, Stays, Descends, Ascends, Refuses}
+use Rattle.passed.specs.Pictures.{Pictures, Goes, Passes, Stays, Descends, Ascends, Refuses}
 use Rattle.runner.specs.Progress.{decodedAt, Answered, Stopped}
 use Rattle.runner.specs.Nested.{Leaves}
 use Rattle.runner.proofs.Progress.{none-yet, then-more, then-stopped, finished, refused, one-more}
 use Rattle.runner.proofs.Going.{fair, Reads, its-index}
 
 -- the words of a frame up to i: the stack is the one that the state pictures, over the same frames
-pub record Far (p trace lent : List ℕ) (st : List Frame) (from i : ℕ) (s : Passed) (answers : List ℕ) : Type 0 where
-  pub stack : List Frame
-  pub pictures : PassedOf p s stack
+pub record Far (p : Policy) (trace lent : List ℕ) (st : Stack) (from i : ℕ) (s : Passed) (answers : List ℕ) : Type 0 where
+  pub stack : Stack
+  pub pictures : Pictures p s stack
   pub level : length stack ≡ length st
   pub under : below stack ≡ below st
-  pub answered : Answered false p trace lent st from i stack answers
+  pub answered : Answered (step false) p trace lent st from i stack answers
 
-begin : (p trace lent : List ℕ) (st : List Frame) (from : ℕ) (s : Passed) → PassedOf p s st → Far p trace lent st from from s lent
-begin p trace lent st from s h = record { stack = st; pictures = h; level = refl; under = refl; answered = none-yet false p trace lent st from }
+begin : (p : Policy) (trace lent : List ℕ) (st : Stack) (from : ℕ) (s : Passed) → Pictures p s st → Far p trace lent st from from s lent
+begin p trace lent st from s h = record { stack = st; pictures = h; level = refl; under = refl; answered = none-yet (step false) p trace lent st from }
 
-module _ (p trace lent : List ℕ) (st : List Frame) (from i : ℕ) (s : Passed) (answers : List ℕ) (g : Far p trace lent st from i s answers) where
-  over : length trace ≤ 2 * i → Stopped false p trace lent st from i 0 answers
-  over h = finished false p trace lent st from i (g .stack) answers (g .answered) h
+module _ (p : Policy) (trace lent : List ℕ) (st : Stack) (from i : ℕ) (s : Passed) (answers : List ℕ) (g : Far p trace lent st from i s answers) where
+  over : length trace ≤ 2 * i → Stopped (step false) p trace lent st from i 0 answers
+  over h = finished (step false) p trace lent st from i (g .stack) answers (g .answered) h
 
-  bad-word : 2 * i + 1 < length trace → (d : Decoded) → d ≡ decodedAt p trace i → (n m : ℕ) → n ≡ numberOf d → d ≡ Bad m → Stopped false p trace lent st from i n answers
+  bad-word : 2 * i + 1 < length trace → (d : Decoded) → d ≡ decodedAt p trace i → (n m : ℕ) → n ≡ numberOf d → d ≡ Bad m
+      → Stopped (step false) p trace lent st from i n answers
   bad-word more d e n m q r =
       let same : n ≡ m = q ∙ ap numberOf r in
       let word : Bad m ≡ decodedAt p trace i = sym r ∙ e in
-      rw same (refused false p trace lent st from i (g .stack) answers (g .answered) more (Bad m) word m refl (fair p trace i (Bad m) word))
+      rw same (refused (step false) p trace lent st from i (g .stack) answers (g .answered) more (Bad m) word m refl (fair p trace i (Bad m) word))
 
   module _ (x : Held) (w : Reads p trace i x) (n : Next) (h : Passes p s (x .op) n) where
-    abbrev after : Outcome
-    after = step p (x .op) (g .stack)
+    abbrev after : Moved Stack
+    after = step false p (x .op) (g .stack)
 
     goes : (k : Next) → n ≡ k → Goes p (g .stack) after k
     goes k q = rw q at (h .serves (w .policy) (fair p trace i (Word x) (w .word)) (g .stack) (g .pictures))
 
-    bad-op : (m : ℕ) → n ≡ Refused m → Stopped false p trace lent st from (x .index) m answers
+    bad-op : (m : ℕ) → n ≡ Refused m → Stopped (step false) p trace lent st from (x .index) m answers
     bad-op m q = let o : Refuses after m = goes (Refused m) q in
-        rw (its-index w) (refused false p trace lent st from i (g .stack) answers (g .answered) (w .more) (Word x) (w .word) m (o .number) (o .refused))
+        rw (its-index w) (refused (step false) p trace lent st from i (g .stack) answers (g .answered) (w .more) (Word x) (w .word) m (o .number) (o .refused))
 
     -- one word answered
-    word : (byte : ℕ) → after .number ≡ 0 → byte ≡ answerByte false after → Answered false p trace lent st from (i + 1) (after .stack) (set answers i byte)
-    word byte z b = one-more false p trace lent st from i (g .stack) answers (g .answered) (w .more) (Word x) (w .word) byte z b
+    word : (byte : ℕ) → after .number ≡ 0 → byte ≡ after .byte → Answered (step false) p trace lent st from (i + 1) (after .state) (set answers i byte)
+    word byte z b = one-more (step false) p trace lent st from i (g .stack) answers (g .answered) (w .more) (Word x) (w .word) byte z b
 
-    up : n ≡ Up → (length st ≢ 0) × Answered false p trace lent st from (i + 1) (below st) (set answers i 0)
+    up : n ≡ Up → (length st ≢ 0) × Answered (step false) p trace lent st from (i + 1) (below st) (set answers i 0)
     up q = let o : Ascends (g .stack) after = goes Up q in
         (λ z. o .framed (g .level ∙ z), rw (o .stack ∙ g .under) at (word 0 (o .number) (sym (o .byte))))
 
     stay : (s′ : Passed) (byte : ℕ) → n ≡ Stay s′ byte → Far p trace lent st from (i + 1) s′ (set answers i byte)
     stay s′ byte q = let o : Stays p (g .stack) after s′ byte = goes (Stay s′ byte) q in record {
-      stack = after .stack;
+      stack = after .state;
       pictures = o .pictures;
       level = o .level ∙ g .level;
       under = o .under ∙ g .under;
@@ -73,9 +76,10 @@ module _ (p trace lent : List ℕ) (st : List Frame) (from i : ℕ) (s : Passed)
 
     -- a callee's run, over or come back from
     module _ (s′ : Passed) (q : n ≡ Down s′) (at m : ℕ) (left : List ℕ) where
-      down-over : Leaves p trace (set answers i 0) s′ (i + 1) at m false left → Stopped false p trace lent st from at m left
+      down-over : Leaves p trace (set answers i 0) s′ (i + 1) at m false left → Stopped (step false) p trace lent st from at m left
       down-over l = let o : Descends p (g .stack) after s′ = goes (Down s′) q in
-          then-stopped false p trace lent st from (i + 1) (after .stack) (set answers i 0) (word 0 (o .number) (sym (o .byte))) at m left (l .left _ (o .pictures))
+          then-stopped (step false) p trace lent st from (i + 1) (after .state) (set answers i 0) (word 0 (o .number) (sym (o .byte))) at m left
+          (l .left _ (o .pictures))
 
       down-back : Leaves p trace (set answers i 0) s′ (i + 1) at m true left → Far p trace lent st from at s left
       down-back l = let o : Descends p (g .stack) after s′ = goes (Down s′) q in record {
@@ -83,25 +87,28 @@ module _ (p trace lent : List ℕ) (st : List Frame) (from i : ℕ) (s : Passed)
         pictures = g .pictures;
         level = g .level;
         under = g .under;
-        answered = rw (o .under) at (then-more false p trace lent st from (i + 1) (after .stack) (set answers i 0) (word 0 (o .number) (sym (o .byte))) at _ left (l .left _ (o .pictures) .1));
+        answered = rw (o .under) at (then-more (step false) p trace lent st from (i + 1) (after .state) (set answers i 0)
+            (word 0 (o .number) (sym (o .byte))) at _ left (l .left _ (o .pictures) .1));
       }
 
 -- the same for every stack that the frame's first state pictures
-pub record Onward (p trace lent : List ℕ) (s₀ : Passed) (from i : ℕ) (s : Passed) (answers : List ℕ) : Type 0 where
+pub record Onward (p : Policy) (trace lent : List ℕ) (s₀ : Passed) (from i : ℕ) (s : Passed) (answers : List ℕ) : Type 0 where
   pub later : from ≤ i
-  pub far : (st : List Frame) → PassedOf p s₀ st → Far p trace lent st from i s answers
+  pub far : (st : Stack) → Pictures p s₀ st → Far p trace lent st from i s answers
 
-pub onward : (p trace lent : List ℕ) (from : ℕ) (s : Passed) → Onward p trace lent s from from s lent
+pub onward : (p : Policy) (trace lent : List ℕ) (from : ℕ) (s : Passed) → Onward p trace lent s from from s lent
 onward p trace lent from s = record { later = omega arith; far = λ st h. begin p trace lent st from s h }
 
-module _ {p trace lent : List ℕ} {s₀ : Passed} {from i : ℕ} {s : Passed} {answers : List ℕ} (f : Onward p trace lent s₀ from i s answers) where
-  left-over : (at n : ℕ) (left : List ℕ) → ((st : List Frame) → PassedOf p s₀ st → Stopped false p trace lent st from at n left) → Leaves p trace lent s₀ from at n false left
+module _ {p : Policy} {trace lent : List ℕ} {s₀ : Passed} {from i : ℕ} {s : Passed} {answers : List ℕ} (f : Onward p trace lent s₀ from i s answers) where
+  left-over : (at n : ℕ) (left : List ℕ) → ((st : Stack) → Pictures p s₀ st → Stopped (step false) p trace lent st from at n left)
+      → Leaves p trace lent s₀ from at n false left
   left-over at n left h = record { later = λ e. never (sym e); left = h }
 
   pub leaves-over : length trace ≤ 2 * i → Leaves p trace lent s₀ from i 0 false answers
   leaves-over h = left-over i 0 answers (λ st k. over p trace lent st from i s answers (f .far st k) h)
 
-  pub leaves-bad-word : 2 * i + 1 < length trace → (d : Decoded) → d ≡ decodedAt p trace i → (n m : ℕ) → n ≡ numberOf d → d ≡ Bad m → Leaves p trace lent s₀ from i n false answers
+  pub leaves-bad-word : 2 * i + 1 < length trace → (d : Decoded) → d ≡ decodedAt p trace i → (n m : ℕ) → n ≡ numberOf d → d ≡ Bad m
+      → Leaves p trace lent s₀ from i n false answers
   leaves-bad-word more d e n m q r = left-over i n answers (λ st k. bad-word p trace lent st from i s answers (f .far st k) more d e n m q r)
 
   module _ {x : Held} (w : Reads p trace i x) {n : Next} (h : Passes p s (x .op) n) where
@@ -119,13 +126,20 @@ module _ {p trace lent : List ℕ} {s₀ : Passed} {from i : ℕ} {s : Passed} {
       leaves-down true b l = never b
       leaves-down false b l = left-over at m left (λ st k. down-over p trace lent st from i s answers (f .far st k) x w n h s′ q at m left l)
 
-      pub onward-back : (back : Bool) → back ≡ true → Leaves p trace (set answers i 0) s′ (i + 1) at m back left → (i < at) × Onward p trace lent s₀ from at s left
+      pub onward-back : (back : Bool) → back ≡ true → Leaves p trace (set answers i 0) s′ (i + 1) at m back left
+          → (i < at) × Onward p trace lent s₀ from at s left
       onward-back true b l =
-          let up : i + 1 ≤ at = l .later refl in
-          (omega arith, record { later = omega (arith, f .later); far = λ st k. down-back p trace lent st from i s answers (f .far st k) x w n h s′ q at m left l })
+          let up : i + 1 ≤ at = l .later refl in (
+            omega arith,
+            record {
+              later = omega (arith, f .later);
+              far = λ st k. down-back p trace lent st from i s answers (f .far st k) x w n h s′ q at m left l;
+            },
+          )
       onward-back false b l = never (sym b)
 
 -- with no frame there is nothing to return to, so a run from a fresh start is left only where it is over
-pub whole-run : (p trace lent : List ℕ) (s : Passed) (at n : ℕ) (back : Bool) (left : List ℕ) → PassedOf p s [] → Leaves p trace lent s 0 at n back left → Stopped false p trace lent [] 0 at n left
+pub whole-run : (p : Policy) (trace lent : List ℕ) (s : Passed) (at n : ℕ) (back : Bool) (left : List ℕ) → Pictures p s []
+    → Leaves p trace lent s 0 at n back left → Stopped (step false) p trace lent [] 0 at n left
 whole-run p trace lent s at n true left h l = absurd (l .left [] h .0 refl)
 whole-run p trace lent s at n false left h l = l .left [] h

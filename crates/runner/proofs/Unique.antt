@@ -1,6 +1,6 @@
 -- Each run's promise fixes its report and every byte of the lent buffer: of two that both keep it, one is the other. Assumes nothing.
 use Rattle.bits.proofs.Unique.{Fixes}
-use Rattle.beliefs.proofs.Unique.{reports-unique}
+use Rattle.answers.proofs.Unique.{reports-unique}
 use Rattle.runner.proofs.walk_run as walk-run
 use Rattle.runner.proofs.record_run as record-run
 use Rattle.runner.proofs.passed_run as passed-run

@@ -1,68 +1,62 @@
 // A trace from a fresh start, by each engine.
 ghost use mathlib.Core.Path.{_≡_};
 ghost use mathlib.Core.Bool.{true, false};
-ghost use Prim.Native.Nat.{_+_, _*_, _<_};
 ghost use mathlib.Core.List.{[]};
 ghost use lib.ListN.{length};
-ghost use Rattle.beliefs.specs.Account.{Reports};
-ghost use Rattle.beliefs.specs.Trace.{run};
-ghost use Rattle.runner.specs.Progress.{barred, decodedAt, Stopped};
+ghost use Rattle.answers.specs.Account.{Reports};
+ghost use Rattle.beliefs.specs.Trace.{step, runRefusal, run};
+ghost use Rattle.runner.specs.Progress.{decodedAt, Stopped};
 ghost use Rattle.runner.specs.Nested.{Leaves};
-use beliefs::Decoded;
-use beliefs::Report;
+use answers::Report;
 use passed::Next;
 use passed::Passed;
+use policy::Policy;
+use words::Decoded;
 
 // What refuses a run before its first word: 13, 1, 9, or 0 for nothing.
-fn barred_by(policy: &[u64; 35], len: usize, room: usize) -> u8
-    ensures { λ r. ⌜ r ≡ barred (now (policy .entry)) len room ⌝ }
+fn refusal(policy: &Policy, len: usize, room: usize) -> u8
+    ensures { λ r. ⌜ r ≡ runRefusal (now (policy .entry)) len room ⌝ }
 {
-    if !policy::valid(policy) {
-        return beliefs::BAD_POLICY;
+    let number = policy::refusal(policy);
+    if number != answers::ACCEPTED {
+        return number;
     }
     if len % 2 != 0 {
-        return beliefs::TOO_FEW;
+        return answers::TOO_FEW;
     }
     if room < len / 2 {
-        return beliefs::NO_ROOM;
+        return answers::NO_ROOM;
     }
-    beliefs::ACCEPTED
+    answers::ACCEPTED
 }
 
-// The word at an index, its first byte the high one, decoded.
-fn decode_at(policy: &[u64; 35], trace: &[u8], index: usize) -> Decoded
-    requires { ⌜ 2 * index + 1 < length (now trace) ⌝ }
+// The word at an index, decoded.
+fn decode_at(policy: &Policy, trace: &[u8], index: usize) -> Decoded
     ensures { λ r. ⌜ r ≡ decodedAt (now (policy .entry)) (now (trace .entry)) index ⌝ }
 {
-    let high = trace[2 * index] as u16;
-    let low = trace[2 * index + 1] as u16;
-    beliefs::decode(
-        policy::signers(policy),
-        policy::targets(policy),
-        256 * high + low,
-        index,
-    )
+    policy::decode(policy, words::word_at(trace, index), index)
 }
 
 // The words of a trace by the walk, up to the first that is refused.
-fn walk_words(policy: &[u64; 35], trace: &[u8], answers: &mut [u8]) -> Report
-    requires { ⌜ barred (now policy) (length (now trace)) (length (now answers)) ≡ 0 ⌝ }
-    ensures { λ r. ⌜ Stopped true (now (policy .entry)) (now (trace .entry)) (now (answers .entry)) [] 0 (r .figure) (r .number) (now (answers .exit)) ⌝ }
+fn walk_words(policy: &Policy, trace: &[u8], answers: &mut [u8]) -> Report
+    requires { ⌜ runRefusal (now policy) (length (now trace)) (length (now answers)) ≡ 0 ⌝ }
+    ensures { λ r. ⌜ Stopped (step true) (now (policy .entry)) (now (trace .entry)) (now (answers .entry)) [] 0 (r .figure) (r .number)
+        (now (answers .exit)) ⌝ }
 {
     let words = trace.len() / 2;
-    let mut state = [0u64; 190];
+    let mut state = [0u64; walk::WORDS];
     let mut i: usize = 0;
     while i < words {
         let decoded = decode_at(policy, trace, i);
         let Decoded::Word(w) = decoded else {
             return Report {
-                number: beliefs::number(decoded),
+                number: words::number(decoded),
                 figure: i as u64,
             };
         };
         let op = w.op;
         let done = walk::serve(policy, &mut state, op);
-        if done.number != beliefs::ACCEPTED {
+        if done.number != answers::ACCEPTED {
             return Report {
                 number: done.number,
                 figure: w.index as u64,
@@ -72,17 +66,18 @@ fn walk_words(policy: &[u64; 35], trace: &[u8], answers: &mut [u8]) -> Report
         i += 1;
     }
     Report {
-        number: beliefs::ACCEPTED,
+        number: answers::ACCEPTED,
         figure: i as u64,
     }
 }
 
 // A run by the walk: 13, 1, 9, then word by word.
-pub fn walk_run(policy: &[u64; 35], trace: &[u8], answers: &mut [u8]) -> Report
-    ensures { λ r. ⌜ Reports r (now (answers .entry)) (now (answers .exit)) (run true (now (policy .entry)) (now (trace .entry)) (length (now (answers .entry)))) ⌝ }
+pub fn walk_run(policy: &Policy, trace: &[u8], answers: &mut [u8]) -> Report
+    ensures { λ r. ⌜ Reports r (now (answers .entry)) (now (answers .exit))
+        (run true (now (policy .entry)) (now (trace .entry)) (length (now (answers .entry)))) ⌝ }
 {
-    let refused = barred_by(policy, trace.len(), answers.len());
-    if refused != beliefs::ACCEPTED {
+    let refused = refusal(policy, trace.len(), answers.len());
+    if refused != answers::ACCEPTED {
         return Report {
             number: refused,
             figure: 0,
@@ -92,24 +87,25 @@ pub fn walk_run(policy: &[u64; 35], trace: &[u8], answers: &mut [u8]) -> Report
 }
 
 // The words of a trace by the belief record, up to the first that is refused.
-fn record_words(policy: &[u64; 35], trace: &[u8], answers: &mut [u8]) -> Report
-    requires { ⌜ barred (now policy) (length (now trace)) (length (now answers)) ≡ 0 ⌝ }
-    ensures { λ r. ⌜ Stopped false (now (policy .entry)) (now (trace .entry)) (now (answers .entry)) [] 0 (r .figure) (r .number) (now (answers .exit)) ⌝ }
+fn record_words(policy: &Policy, trace: &[u8], answers: &mut [u8]) -> Report
+    requires { ⌜ runRefusal (now policy) (length (now trace)) (length (now answers)) ≡ 0 ⌝ }
+    ensures { λ r. ⌜ Stopped (step false) (now (policy .entry)) (now (trace .entry)) (now (answers .entry)) [] 0 (r .figure) (r .number)
+        (now (answers .exit)) ⌝ }
 {
     let words = trace.len() / 2;
-    let mut state = [0u64; 4096];
+    let mut state = [0u64; record::WORDS];
     let mut i: usize = 0;
     while i < words {
         let decoded = decode_at(policy, trace, i);
         let Decoded::Word(w) = decoded else {
             return Report {
-                number: beliefs::number(decoded),
+                number: words::number(decoded),
                 figure: i as u64,
             };
         };
         let op = w.op;
         let kept = record::serve(policy, &mut state, op);
-        if kept.number != beliefs::ACCEPTED {
+        if kept.number != answers::ACCEPTED {
             return Report {
                 number: kept.number,
                 figure: w.index as u64,
@@ -119,17 +115,18 @@ fn record_words(policy: &[u64; 35], trace: &[u8], answers: &mut [u8]) -> Report
         i += 1;
     }
     Report {
-        number: beliefs::ACCEPTED,
+        number: answers::ACCEPTED,
         figure: i as u64,
     }
 }
 
 // A run by the belief record: 13, 1, 9, then word by word.
-pub fn record_run(policy: &[u64; 35], trace: &[u8], answers: &mut [u8]) -> Report
-    ensures { λ r. ⌜ Reports r (now (answers .entry)) (now (answers .exit)) (run false (now (policy .entry)) (now (trace .entry)) (length (now (answers .entry)))) ⌝ }
+pub fn record_run(policy: &Policy, trace: &[u8], answers: &mut [u8]) -> Report
+    ensures { λ r. ⌜ Reports r (now (answers .entry)) (now (answers .exit))
+        (run false (now (policy .entry)) (now (trace .entry)) (length (now (answers .entry)))) ⌝ }
 {
-    let refused = barred_by(policy, trace.len(), answers.len());
-    if refused != beliefs::ACCEPTED {
+    let refused = refusal(policy, trace.len(), answers.len());
+    if refused != answers::ACCEPTED {
         return Report {
             number: refused,
             figure: 0,
@@ -146,15 +143,10 @@ struct Left {
 }
 
 // The words of one frame from a position on, its callees' among them: it calls itself at a call, and comes back at a return.
-fn frame_run(
-    policy: &[u64; 35],
-    trace: &[u8],
-    answers: &mut [u8],
-    passed: Passed,
-    from: usize,
-) -> Left
-    requires { ⌜ barred (now policy) (length (now trace)) (length (now answers)) ≡ 0 ⌝ }
-    ensures { λ r. ⌜ Leaves (now (policy .entry)) (now (trace .entry)) (now (answers .entry)) passed from (r .at) (r .number) (r .back) (now (answers .exit)) ⌝ }
+fn frame_run(policy: &Policy, trace: &[u8], answers: &mut [u8], passed: Passed, from: usize) -> Left
+    requires { ⌜ runRefusal (now policy) (length (now trace)) (length (now answers)) ≡ 0 ⌝ }
+    ensures { λ r. ⌜ Leaves (now (policy .entry)) (now (trace .entry)) (now (answers .entry)) passed from
+        (r .at) (r .number) (r .back) (now (answers .exit)) ⌝ }
 {
     let words = trace.len() / 2;
     let mut state = passed;
@@ -164,7 +156,7 @@ fn frame_run(
         let Decoded::Word(w) = decoded else {
             return Left {
                 at: i,
-                number: beliefs::number(decoded),
+                number: words::number(decoded),
                 back: false,
             };
         };
@@ -182,7 +174,7 @@ fn frame_run(
                 answers[i] = 0;
                 return Left {
                     at: i + 1,
-                    number: beliefs::ACCEPTED,
+                    number: answers::ACCEPTED,
                     back: true,
                 };
             }
@@ -203,17 +195,18 @@ fn frame_run(
     }
     Left {
         at: i,
-        number: beliefs::ACCEPTED,
+        number: answers::ACCEPTED,
         back: false,
     }
 }
 
 // A run by the passed state: 13, 1, 9, then word by word.
-pub fn passed_run(policy: &[u64; 35], trace: &[u8], answers: &mut [u8]) -> Report
-    ensures { λ r. ⌜ Reports r (now (answers .entry)) (now (answers .exit)) (run false (now (policy .entry)) (now (trace .entry)) (length (now (answers .entry)))) ⌝ }
+pub fn passed_run(policy: &Policy, trace: &[u8], answers: &mut [u8]) -> Report
+    ensures { λ r. ⌜ Reports r (now (answers .entry)) (now (answers .exit))
+        (run false (now (policy .entry)) (now (trace .entry)) (length (now (answers .entry)))) ⌝ }
 {
-    let refused = barred_by(policy, trace.len(), answers.len());
-    if refused != beliefs::ACCEPTED {
+    let refused = refusal(policy, trace.len(), answers.len());
+    if refused != answers::ACCEPTED {
         return Report {
             number: refused,
             figure: 0,

@@ -9,11 +9,13 @@ use Rattle.bits.proofs.Laws.{bit-with, bit-without, bit-none}
 use Rattle.beliefs.specs.declared.Seen.{Seen}
 use Rattle.beliefs.specs.Policy.{targets}
 use Rattle.beliefs.specs.Stack.{Frame, marked, granted, permitted, walk, decides, goesOn, called, enable, disable, revert}
-use Rattle.beliefs.proofs.Granted.{granted-split, own-enable, own-disable, own-revert, inherited-enable, inherited-disable, inherited-revert, own-marks, inherited-start, own-called, inherited-called}
-use Rattle.walk.specs.Coherent.{Sound, Coherent}
+use Rattle.beliefs.proofs.Granted.{granted-split, own-enable, own-disable, own-revert, inherited-enable, inherited-disable, inherited-revert}
+use Rattle.beliefs.proofs.Granted.{own-marks, inherited-start, own-called, inherited-called}
+use Rattle.walk.specs.Pictures.{Sound, Coherent}
 
 -- one frame's part in the verdict
-walk-step : (q e d : Bool) (v : Seen) → cond q (cond e (decides true) (cond d (decides false) (goesOn v))) (decides false) .granted ≡ (q && (e || (not d && v .granted)))
+walk-step : (q e d : Bool) (v : Seen) → cond q (cond e (decides true) (cond d (decides false) (goesOn v))) (decides false) .granted
+    ≡ (q && (e || (not d && v .granted)))
 walk-step false e d v = refl
 walk-step true true d v = refl
 walk-step true false true v = refl
@@ -24,7 +26,8 @@ unfolding granted walk
 agree p t [] h = refl
 agree p t (f ∷ r) h =
     granted-split p t f r
-    ∙ ap₂ (λ (x y : Bool). permitted p t (f .principal) && (x || y)) (h .0 .owns t) (h .0 .inherits t ∙ ap (λ (x : Bool). not (bit (f .disabled) t) && x) (agree p t r (h .1)))
+    ∙ ap₂ (λ (x y : Bool). permitted p t (f .principal) && (x || y)) (h .0 .owns t)
+    (h .0 .inherits t ∙ ap (λ (x : Bool). not (bit (f .disabled) t) && x) (agree p t r (h .1)))
     ∙ sym (walk-step (permitted p t (f .principal)) (bit (f .enabled) t) (bit (f .disabled) t) (walk p t (map marked r)))
 
 -- a mark that is set, and one that was there

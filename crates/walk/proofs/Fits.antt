@@ -17,8 +17,9 @@ use Rattle.beliefs.specs.Policy.{signers, targets}
 use Rattle.beliefs.specs.Stack.{Frame, nobody}
 use Rattle.beliefs.proofs.Lists.{each-ext, each-at, each-of, part-below}
 use Rattle.beliefs.proofs.Policy.{both}
-use Rattle.walk.specs.State.{depth, frameAt, inUse, unused, fits}
-use Rattle.walk.specs.Coherent.{Used, Pictures}
+use Rattle.walk.specs.Layout.{depth, frameAt}
+use Rattle.walk.specs.Fits.{inUse, unused, fits}
+use Rattle.walk.specs.Pictures.{Used, Pictures}
 
 -- frames in use, one more at each turn, with the marks of those before it together
 module _ (p s : List ℕ) where
@@ -30,7 +31,13 @@ module _ (p s : List ℕ) where
       → each (inUse p s) (k + 1) ≡ below (bitOr (bitOr marks (frameAt s k .enabled)) (frameAt s k .disabled)) (targets p)
   unfolding each inUse
   one-in-use k marks h l =
-      rw (add-one, h, lt-ltb _ _ l, below-or (bitOr marks (frameAt s k .enabled)) (frameAt s k .disabled) (targets p), below-or marks (frameAt s k .enabled) (targets p))
+      rw (
+        add-one,
+        h,
+        lt-ltb _ _ l,
+        below-or (bitOr marks (frameAt s k .enabled)) (frameAt s k .disabled) (targets p),
+        below-or marks (frameAt s k .enabled) (targets p),
+      )
       (sym (and-assoc (below marks (targets p)) (below (frameAt s k .enabled) (targets p)) (below (frameAt s k .disabled) (targets p))))
 
   pub not-in-use : (k : ℕ) → signers p ≤ frameAt s k .signer → inUse p s k ≡ false
@@ -65,7 +72,8 @@ room-above s d long few =
     word : (i j : ℕ) → i ≡ j → below (getD s i 0) 0 ≡ eqb (getD s j 0) 0
     word i j e = ap (λ (k : ℕ). below (getD s k 0) 0) e ∙ below-none (getD s j 0)
 
-    three : (k : ℕ) → (below (getD s (3 * d + 1 + 3 * k) 0) 0 && (below (getD s (3 * d + 1 + (3 * k + 1)) 0) 0 && below (getD s (3 * d + 1 + (3 * k + 2)) 0) 0)) ≡ unused s (d + k)
+    three : (k : ℕ) → (below (getD s (3 * d + 1 + 3 * k) 0) 0 &&
+        (below (getD s (3 * d + 1 + (3 * k + 1)) 0) 0 && below (getD s (3 * d + 1 + (3 * k + 2)) 0) 0)) ≡ unused s (d + k)
     three k =
         ap₂ (λ (x y : Bool). x && y) (word _ (3 * (d + k) + 1) (omega arith))
         (ap₂ (λ (x y : Bool). x && y) (word _ (3 * (d + k) + 2) (omega arith)) (word _ (3 * (d + k) + 3) (omega arith)))

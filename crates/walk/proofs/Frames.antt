@@ -2,7 +2,7 @@
 use mathlib.Core.Path.{_≡_, refl, sym, ap, ap₂, _∙_}
 use mathlib.Core.Logic.{_≢_}
 use mathlib.Core.List.{List, _∷_}
-use Prim.Native.Nat.{ℕ, zero, suc, _+_, _*_, _%_, _≤_, _<_}
+use Prim.Native.Nat.{ℕ, zero, suc, _+_, _-_, _*_, _%_, _≤_, _<_}
 use native.Mathlib.Omega.{arith}
 use lib.ListN.{getD, set, length, length-set, List·getD-eq-default}
 use lib.Seq.{getD-set-same, getD-set-other, set-out}
@@ -10,17 +10,19 @@ use Rattle.beliefs.specs.declared.Marked.{Marked}
 use Rattle.beliefs.specs.declared.Seen.{Seen}
 use Rattle.beliefs.specs.Stack.{nobody, walk}
 use Rattle.beliefs.proofs.Counts.{looked-le}
-use Rattle.walk.specs.State.{depth, frameAt, framesAt, frames, put}
+use Rattle.walk.specs.Layout.{depth, frameAt, framesAt, frames, put}
 
 -- a frame by its three words
-same-frame : (s : List ℕ) (j : ℕ) (m : Marked) → getD s (3 * j + 1) 0 ≡ m .signer → getD s (3 * j + 2) 0 ≡ m .enabled → getD s (3 * j + 3) 0 ≡ m .disabled → frameAt s j ≡ m
+same-frame : (s : List ℕ) (j : ℕ) (m : Marked) → getD s (3 * j + 1) 0 ≡ m .signer → getD s (3 * j + 2) 0 ≡ m .enabled → getD s (3 * j + 3) 0 ≡ m .disabled
+    → frameAt s j ≡ m
 unfolding frameAt
 same-frame s j m a b c = λ i. record { signer = a i; enabled = b i; disabled = c i }
 
 module _ (s : List ℕ) (long : length s ≡ 190) (k : ℕ) where
   -- there is no 64th frame
   pub frame-past : 63 ≤ k → nobody ≡ frameAt s k
-  frame-past h = sym (same-frame s k nobody (List·getD-eq-default s 0 (omega arith)) (List·getD-eq-default s 0 (omega arith)) (List·getD-eq-default s 0 (omega arith)))
+  frame-past h =
+      sym (same-frame s k nobody (List·getD-eq-default s 0 (omega arith)) (List·getD-eq-default s 0 (omega arith)) (List·getD-eq-default s 0 (omega arith)))
 
   pub put-past : (m : Marked) → 63 ≤ k → s ≡ put s k m
   put-past m h =
@@ -79,6 +81,16 @@ framesAt-same s s′ (suc k) h = ap₂ (λ (m : Marked) (ms : List Marked). m �
 pub framesAt-length : (s : List ℕ) (k : ℕ) → length (framesAt s k) ≡ k
 framesAt-length s zero = refl
 framesAt-length s (suc k) = ap suc (framesAt-length s k)
+
+-- the frame at a place, 0 at the newest
+module _ (s : List ℕ) where
+  pub place-past : (d k : ℕ) → d ≤ k → nobody ≡ getD (framesAt s d) k nobody
+  place-past d k h = sym (List·getD-eq-default (framesAt s d) nobody (omega (arith, framesAt-length s d)))
+
+  pub place-in : (d k : ℕ) → k < d → frameAt s (d - 1 - k) ≡ getD (framesAt s d) k nobody
+  place-in zero k h = absurd (omega arith)
+  place-in (suc d) zero h = let e : suc d - 1 - 0 ≡ d = omega arith in ap (frameAt s) e
+  place-in (suc d) (suc k) h = let e : suc d - 1 - suc k ≡ d - 1 - k = omega arith in ap (frameAt s) e ∙ place-in d k (omega arith)
 
 -- six bits hold the frames that a walk looks at
 pub six-bits : (p s : List ℕ) (t : ℕ) (v : Seen) → v ≡ walk p t (frames s) → v .looked % 64 ≡ v .looked

@@ -1,7 +1,7 @@
 pub mod Frames
+pub mod Fits
 pub mod Turn
 pub mod Agree
-pub mod Fits
 pub mod Kept
-pub mod Exists
+pub mod Live
 pub mod Unique

@@ -11,7 +11,7 @@ use Rattle.beliefs.specs.declared.Marked.{Marked}
 use Rattle.beliefs.specs.declared.Seen.{Seen}
 use Rattle.beliefs.specs.Policy.{permits}
 use Rattle.beliefs.specs.Stack.{walk, decides, goesOn}
-use Rattle.walk.specs.State.{frameAt, framesAt}
+use Rattle.walk.specs.Layout.{frameAt, framesAt}
 
 -- n frames were looked at before
 abbrev pub after : ℕ → Seen → Seen
@@ -23,7 +23,8 @@ start v = ap (λ (n : ℕ). record { granted = v .granted; looked = n }) (sym (z
 module _ (p s : List ℕ) (t left looked : ℕ) (total : Seen) (inv : total ≡ after looked (walk p t (framesAt s left))) where
   pub bottom : left ≡ 0 → record { granted = false; looked = looked } ≡ total
   unfolding walk
-  bottom e = ap (λ (n : ℕ). record { granted = false; looked = n }) (sym (add-zero looked)) ∙ sym (inv ∙ ap (λ (n : ℕ). after looked (walk p t (framesAt s n))) e)
+  bottom e =
+      ap (λ (n : ℕ). record { granted = false; looked = n }) (sym (add-zero looked)) ∙ sym (inv ∙ ap (λ (n : ℕ). after looked (walk p t (framesAt s n))) e)
 
   module _ (more : left ≢ 0) (m : Marked) (newest : m ≡ frameAt s (left - 1)) where
     turn : total ≡ after looked (cond (permits p (m .signer) t)

@@ -1,8 +1,8 @@
 -- Each promise fixes its result and the words left: of two that both keep it, one is the other. Assumes nothing.
 use Rattle.bits.proofs.Unique.{Fixes, alone}
-use Rattle.beliefs.proofs.Unique.{gives-unique, operated-unique}
+use Rattle.answers.proofs.Unique.{gives-unique, operated-unique}
 use Rattle.walk.proofs.depth as depth
-use Rattle.walk.proofs.frame_at as frame-at
+use Rattle.walk.proofs.frame as frame
 use Rattle.walk.proofs.check as check
 use Rattle.walk.proofs.serve as serve
 use Rattle.walk.proofs.valid as valid
@@ -11,8 +11,8 @@ use Rattle.walk.proofs.operate as operate
 pub depth-unique : Fixes depth.ended depth.Reads.Post
 depth-unique _ _ _ _ _ _ = alone
 
-pub frame-at-unique : Fixes frame-at.ended frame-at.Reads.Post
-frame-at-unique _ _ _ _ _ _ = alone
+pub frame-unique : Fixes frame.ended frame.Reads.Post
+frame-unique _ _ _ _ _ _ = alone
 
 pub check-unique : Fixes check.ended check.Reads.Post
 check-unique _ _ _ _ _ _ = alone

@@ -1,2 +1,4 @@
-pub mod State
-pub mod Coherent
+pub mod Layout
+pub mod Fits
+pub mod Does
+pub mod Pictures

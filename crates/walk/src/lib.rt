@@ -1,37 +1,48 @@
-// The walk: frames with marks in a lent state of 190 words, the operations on them in place, and the check from newest to oldest.
+// The walk: frames with marks in a lent state, the operations on them in place, and the check from newest to oldest.
 ghost use mathlib.Core.Path.{_≡_};
-ghost use mathlib.Core.Bool.{true, cond};
+ghost use mathlib.Core.Bool.{cond};
 ghost use lib.Dec.{eqb};
+ghost use lib.ListN.{getD};
+ghost use Rattle.words.specs.declared.Operation.the-variants.{Call, Check};
+ghost use Rattle.answers.specs.Answer.{done, Gives};
 ghost use Rattle.beliefs.specs.Lists.{each};
-ghost use Rattle.beliefs.specs.Stack.{startMarks, walk};
-ghost use Rattle.beliefs.specs.Engine.{Gives, Serve, Operate};
-ghost use Rattle.walk.specs.State.{depth, frameAt, frames, put, remarked, markIn, callIn, returnIn, checkIn, stepIn, inUse, fits};
-ghost use Rattle.walk.specs.Coherent.{Pictures};
-use beliefs::Answer;
-use beliefs::Decoded;
+ghost use Rattle.beliefs.specs.Stack.{nobody, startMarks, walk};
+ghost use Rattle.beliefs.specs.Engine.{acts, byFrame, Serve, Operate};
+ghost use Rattle.walk.specs.Layout.{depth, frameAt, frames, put};
+ghost use Rattle.walk.specs.Fits.{inUse, fits};
+ghost use Rattle.walk.specs.Does.{returnedIn, remarked, markedIn};
+ghost use Rattle.walk.specs.Pictures.{byWalk};
+use answers::Answer;
 use beliefs::Marked;
-use beliefs::Operation;
 use beliefs::Seen;
+use policy::Policy;
+use words::Decoded;
+use words::Operation;
+
+// A state's words: the depth, then 63 frames, bottom first, of 3 words.
+pub const WORDS: usize = 190;
+
+pub type State = [u64; WORDS];
 
 // The depth. A state that says more than 63 is taken to be full.
-pub fn depth(state: &[u64; 190]) -> u64
+pub fn depth(state: &State) -> u64
     ensures { λ r. ⌜ r ≡ depth (now (state .entry)) ⌝ }
 {
     let said = state[0];
-    if said < beliefs::DEPTH_MOST {
+    if said < words::DEPTH_MOST {
         said
     } else {
-        beliefs::DEPTH_MOST
+        words::DEPTH_MOST
     }
 }
 
 // The frame above k others: zeros where there is no room for one.
-pub fn frame_at(state: &[u64; 190], k: u64) -> Marked
+fn frame_at(state: &State, k: u64) -> Marked
     ensures { λ r. ⌜ r ≡ frameAt (now (state .entry)) k ⌝ }
 {
     // As a slice, so that its length is known.
     let whole: &[u64] = state;
-    if beliefs::DEPTH_MOST <= k {
+    if words::DEPTH_MOST <= k {
         return Marked {
             signer: 0,
             enabled: 0,
@@ -47,12 +58,12 @@ pub fn frame_at(state: &[u64; 190], k: u64) -> Marked
 }
 
 // Stores a frame above k others, where there is room for one.
-fn set_frame(state: &mut [u64; 190], k: u64, frame: Marked)
+fn set_frame(state: &mut State, k: u64, frame: Marked)
     ensures { λ r. ⌜ now (state .exit) ≡ put (now (state .entry)) k frame ⌝ }
 {
     // As a slice, so that its length is known.
     let whole: &[u64] = state;
-    if beliefs::DEPTH_MOST <= k {
+    if words::DEPTH_MOST <= k {
         return;
     }
     let at = (3 * k) as usize;
@@ -61,8 +72,23 @@ fn set_frame(state: &mut [u64; 190], k: u64, frame: Marked)
     state[at + 3] = frame.disabled;
 }
 
+// The frame at a place, 0 at the newest: zeros where there is none.
+pub fn frame(state: &State, place: u64) -> Marked
+    ensures { λ r. ⌜ r ≡ getD (frames (now (state .entry))) place nobody ⌝ }
+{
+    let d = depth(state);
+    if d <= place {
+        return Marked {
+            signer: 0,
+            enabled: 0,
+            disabled: 0,
+        };
+    }
+    frame_at(state, d - 1 - place)
+}
+
 // The walk from the newest frame to the oldest: the verdict on a target, and the frames looked at.
-pub fn check(policy: &[u64; 35], state: &[u64; 190], target: u8) -> Seen
+pub fn check(policy: &Policy, state: &State, target: u8) -> Seen
     ensures { λ r. ⌜ r ≡ walk (now (policy .entry)) target (frames (now (state .entry))) ⌝ }
 {
     let asked = bits::with(0, target);
@@ -128,13 +154,14 @@ fn remark(op: Operation, m: Marked) -> Marked
     }
 }
 
-// Enable, disable or revert by the newest frame.
-fn mark(state: &mut [u64; 190], op: Operation) -> Answer
-    ensures { λ r. ⌜ Gives r (now (state .exit)) (markIn op (now (state .entry))) ⌝ }
+// Enable, disable or revert by the newest frame: 7.
+fn mark(state: &mut State, op: Operation) -> Answer
+    ensures { λ r. ⌜ Gives r (now (state .exit)) (byFrame byWalk (done (markedIn op (now (state .entry)))) (now (state .entry))) ⌝ }
 {
     let d = depth(state);
-    if d == 0 {
-        return Answer::refused(beliefs::NO_FRAME);
+    let number = words::framed(d);
+    if number != answers::ACCEPTED {
+        return Answer::refused(number);
     }
     let frame = remark(op, frame_at(state, d - 1));
     set_frame(state, d - 1, frame);
@@ -142,7 +169,7 @@ fn mark(state: &mut [u64; 190], op: Operation) -> Answer
 }
 
 // The enabled marks of a new frame above d others: those of the start at the bottom, else none.
-fn first_marks(policy: &[u64; 35], d: u64) -> u64
+fn first_marks(policy: &Policy, d: u64) -> u64
     ensures { λ r. ⌜ r ≡ cond (eqb d 0) (startMarks (now (policy .entry))) 0 ⌝ }
 {
     if d == 0 {
@@ -152,13 +179,14 @@ fn first_marks(policy: &[u64; 35], d: u64) -> u64
     }
 }
 
-// A new newest frame.
-fn call(policy: &[u64; 35], state: &mut [u64; 190], signer: u8) -> Answer
-    ensures { λ r. ⌜ Gives r (now (state .exit)) (callIn (now (policy .entry)) signer (now (state .entry))) ⌝ }
+// A new newest frame: 8.
+fn call(policy: &Policy, state: &mut State, signer: u8) -> Answer
+    ensures { λ r. ⌜ Gives r (now (state .exit)) (acts byWalk (now (policy .entry)) (Call signer) (now (state .entry))) ⌝ }
 {
     let d = depth(state);
-    if beliefs::DEPTH_MOST <= d {
-        return Answer::refused(beliefs::TOO_DEEP);
+    let number = words::deeper(d);
+    if number != answers::ACCEPTED {
+        return Answer::refused(number);
     }
     let enabled = first_marks(policy, d);
     let frame = Marked {
@@ -171,13 +199,14 @@ fn call(policy: &[u64; 35], state: &mut [u64; 190], signer: u8) -> Answer
     Answer::done()
 }
 
-// The newest frame goes, and leaves zeros.
-fn leave(state: &mut [u64; 190]) -> Answer
-    ensures { λ r. ⌜ Gives r (now (state .exit)) (returnIn (now (state .entry))) ⌝ }
+// The newest frame goes, and leaves zeros: 7.
+fn leave(state: &mut State) -> Answer
+    ensures { λ r. ⌜ Gives r (now (state .exit)) (byFrame byWalk (done (returnedIn (now (state .entry)))) (now (state .entry))) ⌝ }
 {
     let d = depth(state);
-    if d == 0 {
-        return Answer::refused(beliefs::NO_FRAME);
+    let number = words::framed(d);
+    if number != answers::ACCEPTED {
+        return Answer::refused(number);
     }
     let zeros = Marked {
         signer: 0,
@@ -189,20 +218,21 @@ fn leave(state: &mut [u64; 190]) -> Answer
     Answer::done()
 }
 
-// A check by the newest frame.
-fn ask(policy: &[u64; 35], state: &[u64; 190], target: u8) -> Answer
-    ensures { λ r. ⌜ Gives r (now (state .entry)) (checkIn (now (policy .entry)) target (now (state .entry))) ⌝ }
+// A check by the newest frame: 7.
+fn ask(policy: &Policy, state: &State, target: u8) -> Answer
+    ensures { λ r. ⌜ Gives r (now (state .entry)) (acts byWalk (now (policy .entry)) (Check target) (now (state .entry))) ⌝ }
 {
-    if depth(state) == 0 {
-        return Answer::refused(beliefs::NO_FRAME);
+    let number = words::framed(depth(state));
+    if number != answers::ACCEPTED {
+        return Answer::refused(number);
     }
     let seen = check(policy, state, target);
     Answer::verdict(seen.granted, seen.looked)
 }
 
 // One operation that the caller has decoded.
-pub fn serve(policy: &[u64; 35], state: &mut [u64; 190], op: Operation) -> Answer
-    ensures { λ r. ⌜ Serve (Pictures (now (policy .entry))) true 190 (now (policy .entry)) (now (state .entry)) op r (now (state .exit)) (stepIn (now (policy .entry)) (now (state .entry)) op) ⌝ }
+pub fn serve(policy: &Policy, state: &mut State, op: Operation) -> Answer
+    ensures { λ r. ⌜ Serve byWalk (now (policy .entry)) (now (state .entry)) op r (now (state .exit)) ⌝ }
 {
     // As a slice, so that its length is known.
     let whole: &[u64] = state;
@@ -218,7 +248,7 @@ pub fn serve(policy: &[u64; 35], state: &mut [u64; 190], op: Operation) -> Answe
 
 // Whether every frame has a signer below S, and marks for targets below N only. One test of their marks together is quicker
 // than one for each.
-fn frames_fit(policy: &[u64; 35], state: &[u64; 190]) -> bool
+fn frames_fit(policy: &Policy, state: &State) -> bool
     ensures { λ r. ⌜ r ≡ each (inUse (now (policy .entry)) (now (state .entry))) (depth (now (state .entry))) ⌝ }
 {
     let signers = policy::signers(policy);
@@ -237,38 +267,39 @@ fn frames_fit(policy: &[u64; 35], state: &[u64; 190]) -> bool
 }
 
 // Whether number 14 does not refuse the state.
-pub fn valid(policy: &[u64; 35], state: &[u64; 190]) -> bool
+pub fn valid(policy: &Policy, state: &State) -> bool
     ensures { λ r. ⌜ r ≡ fits (now (policy .entry)) (now (state .entry)) ⌝ }
 {
     // As a slice, so that its length is known.
     let whole: &[u64] = state;
-    if beliefs::DEPTH_MOST < state[0] {
+    if words::DEPTH_MOST < state[0] {
         return false;
     }
     if !frames_fit(policy, state) {
         return false;
     }
     let above = (3 * depth(state) + 1) as usize;
-    bits::all_fit(&whole[above..190], 0)
+    bits::all_fit(&whole[above..WORDS], 0)
 }
 
 // One operation word: 13, 14, 4, 3, 5 or 6, 7, 8. The answer byte is written only where it is accepted.
-pub fn operate(policy: &[u64; 35], state: &mut [u64; 190], word: u16, answer: &mut u8) -> u8
-    ensures { λ r. ⌜ Operate (Pictures (now (policy .entry))) true (fits (now (policy .entry)) (now (state .entry))) (stepIn (now (policy .entry)) (now (state .entry))) (now (policy .entry)) (now (state .entry)) word r (now (answer .entry)) (now (answer .exit)) (now (state .exit)) ⌝ }
+pub fn operate(policy: &Policy, state: &mut State, word: u16, answer: &mut u8) -> u8
+    ensures { λ r. ⌜ Operate byWalk (now (policy .entry)) (now (state .entry)) word (now (answer .entry)) r (now (answer .exit)) (now (state .exit)) ⌝ }
 {
-    if !policy::valid(policy) {
-        return beliefs::BAD_POLICY;
+    let number = policy::refusal(policy);
+    if number != answers::ACCEPTED {
+        return number;
     }
     if !valid(policy, state) {
-        return beliefs::BAD_STATE;
+        return answers::BAD_STATE;
     }
-    let decoded = beliefs::decode(policy::signers(policy), policy::targets(policy), word, 0);
+    let decoded = policy::decode(policy, word, 0);
     let Decoded::Word(w) = decoded else {
-        return beliefs::number(decoded);
+        return words::number(decoded);
     };
     let op = w.op;
     let done = serve(policy, state, op);
-    if done.number == beliefs::ACCEPTED {
+    if done.number == answers::ACCEPTED {
         *answer = done.byte;
     }
     done.number

@@ -19,23 +19,8 @@ abbrev μ-loop : tie.MeasureT-loop
 loop-holds : tie.Need-loop-holds Inv-loop μ-loop
 loop-holds c = (all-below-start _ _, omega arith)
 
-mul-together : tie.Need-mul-together Inv-loop μ-loop
-mul-together c = search needs
-
-shared-slice-read-together : tie.Need-shared-slice-read-together Inv-loop μ-loop
-shared-slice-read-together c = search needs
-
-add-i : tie.Need-add-i Inv-loop μ-loop
-add-i c = search needs
-
-loop-less : tie.Need-loop-less Inv-loop μ-loop
-loop-less c = search needs
-
 loop-again : tie.Need-loop-again Inv-loop μ-loop
 loop-again c = (c .before .before .loop .inv .0 ∙ all-below-more _ _ _ _ (c .before .loop-test .taken), omega arith)
-
-fits-requires : tie.Need-fits-requires Inv-loop μ-loop
-fits-requires c κs = search needs
 
 returns : tie.Need-returns Inv-loop μ-loop
 returns c =
@@ -49,10 +34,10 @@ all-fit-spec =
     Inv-loop
     μ-loop
     loop-holds
-    mul-together
-    shared-slice-read-together
-    add-i
-    loop-less
+    (search needs)
+    (search needs)
+    (search needs)
+    (search needs)
     loop-again
-    fits-requires
+    (search needs)
     returns)

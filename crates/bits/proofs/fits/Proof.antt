@@ -6,9 +6,6 @@ use Rattle.bits.proofs.Laws.{one-shl, below-high}
 use Rattle.bits.proofs.fits.Statement.{statement}
 use Rattle.bits.proofs.fits.Tie as tie
 
-shl-result : tie.Need-shl-result
-shl-result c = search needs
-
 returns : tie.Need-returns
 unfolding below
 returns c = rw (one-shl _ (c .if1 .taken))
@@ -17,4 +14,4 @@ returns-2 : tie.Need-returns-2
 returns-2 c = sym (below-high _ _ (c .before .fits .w .fits) (c .if1 .left))
 
 pub fits-spec : {M : Type 1} → statement M
-fits-spec = tie.close (tie.spec shl-result returns returns-2)
+fits-spec = tie.close (tie.spec (search needs) returns returns-2)

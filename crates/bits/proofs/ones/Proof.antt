@@ -8,9 +8,6 @@ use Rattle.bits.proofs.Laws.{one-shl, lowest-low, lowest-high}
 use Rattle.bits.proofs.ones.Statement.{statement}
 use Rattle.bits.proofs.ones.Tie as tie
 
-shl-result : tie.Need-shl-result
-shl-result c = search needs
-
 sub-result : tie.Need-sub-result
 sub-result c = rw (one-shl _ (c .if1 .taken)) (pow-pos (c .before .args .n))
 
@@ -21,4 +18,4 @@ returns-2 : tie.Need-returns-2
 returns-2 c = sym (lowest-high _ (c .if1 .left))
 
 pub ones-spec : {M : Type 1} → statement M
-ones-spec = tie.close (tie.spec shl-result sub-result returns returns-2)
+ones-spec = tie.close (tie.spec (search needs) sub-result returns returns-2)

@@ -20,7 +20,11 @@ steps-spec =
     (search needs)
     (search needs)
     (λ c. omega (arith, c .shared-slice-known3 .given (2 * c .before .before .before .loop .i + 1)))
-    (λ c. omega (arith, c .shared-slice-known3 .given (2 * c .before .before .before .loop .i + 1), c .before .shared-slice-known2 .given (2 * c .before .before .before .loop .i)))
+    (λ c. omega (
+      arith,
+      c .shared-slice-known3 .given (2 * c .before .before .before .loop .i + 1),
+      c .before .shared-slice-known2 .given (2 * c .before .before .before .loop .i),
+    ))
     (search needs)
     (search needs)
     (search needs)

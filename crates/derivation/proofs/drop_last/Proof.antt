@@ -9,17 +9,17 @@ use Rattle.derivation.proofs.drop_last.Tie as tie
 returns : tie.Need-returns
 returns c = record { over = λ ms. drop-none ms (c .before .before .args .chain) (c .if1 .taken) }
 
-sub-last : tie.Need-sub-last
-sub-last c = search needs
-
-has-requires : tie.Need-has-requires
-has-requires c κs = search needs
-
 returns-2 : tie.Need-returns-2
-returns-2 c = record { over = λ ms. drop-other ms (c .before .before .before .before .before .args .chain) (c .before .before .before .if1 .left) (sym (c .before .has .ensures) ∙ not-true _ (c .if2 .taken)) }
+returns-2 c = record {
+  over = λ ms. drop-other ms (c .before .before .before .before .before .args .chain) (c .before .before .before .if1 .left)
+      (sym (c .before .has .ensures) ∙ not-true _ (c .if2 .taken));
+}
 
 returns-3 : tie.Need-returns-3
-returns-3 c = record { over = λ ms. drop-target ms (c .before .before .before .before .before .args .chain) (c .before .before .before .if1 .left) (sym (c .before .has .ensures) ∙ not-false _ (c .if2 .left)) }
+returns-3 c = record {
+  over = λ ms. drop-target ms (c .before .before .before .before .before .args .chain) (c .before .before .before .if1 .left)
+      (sym (c .before .has .ensures) ∙ not-false _ (c .if2 .left));
+}
 
 pub drop-last-spec : {M : Type 1} → statement M
-drop-last-spec = tie.close (tie.spec returns sub-last has-requires returns-2 returns-3)
+drop-last-spec = tie.close (tie.spec returns (search needs) (search needs) returns-2 returns-3)

@@ -7,13 +7,14 @@ use Prim.Native.Nat.{_-_, _≤_}
 use native.Mathlib.Omega.{arith}
 use lib.ListN.{length}
 use Rattle.beliefs.specs.Derivation.{judge}
-use Rattle.walk.specs.State.{frames}
+use Rattle.walk.specs.Layout.{frames}
 use Rattle.derivation.proofs.Judged.{left, at-end, refused, onward}
 use Rattle.derivation.proofs.judge.Statement.{statement}
 use Rattle.derivation.proofs.judge.Tie as tie
 
 abbrev Inv-loop : tie.InvT-loop
-Inv-loop policy state target steps chain₀ i₀ chain i = (i ≤ length steps) × (judge policy (frames state) target false 0 [] steps ≡ left policy (frames state) target steps i chain)
+Inv-loop policy state target steps chain₀ i₀ chain i =
+    (i ≤ length steps) × (judge policy (frames state) target false 0 [] steps ≡ left policy (frames state) target steps i chain)
 
 abbrev μ-loop : tie.MeasureT-loop
 μ-loop policy state target steps chain₀ i₀ chain i = length steps - i
@@ -21,49 +22,31 @@ abbrev μ-loop : tie.MeasureT-loop
 loop-holds : tie.Need-loop-holds Inv-loop μ-loop
 loop-holds c = (omega arith, refl)
 
-shared-slice-read-follow : tie.Need-shared-slice-read-follow Inv-loop μ-loop
-shared-slice-read-follow c = search needs
-
-follow-requires : tie.Need-follow-requires Inv-loop μ-loop
-follow-requires c κs = search needs
-
-enum-known-turn : tie.Need-enum-known-turn Inv-loop μ-loop
-enum-known-turn c = search needs
-
-enum-told : tie.Need-enum-told Inv-loop μ-loop
-enum-told c = search needs
-
 returns : tie.Need-returns Inv-loop μ-loop
 returns c =
     let turned = c .before .before in
     let looped = turned .before .before .before in
     let a = looped .before .before .args in
-    let no = refused (a .policy .now) (frames (a .state .now)) (a .target) (a .steps .now) (looped .loop .i) (looped .loop .chain) (turned .before .before .loop-test .taken) in
+    let no = refused (a .policy .now) (frames (a .state .now)) (a .target) (a .steps .now) (looped .loop .i) (looped .loop .chain)
+    (turned .before .before .loop-test .taken) in
     rw (looped .loop .inv .1 ∙ no (rw (c .enum-told .given .1) at (turned .follow .ensures))) (record { number = refl; figure = refl })
-
-add-i : tie.Need-add-i Inv-loop μ-loop
-add-i c = search needs
-
-loop-less : tie.Need-loop-less Inv-loop μ-loop
-loop-less c = search needs
 
 loop-again : tie.Need-loop-again Inv-loop μ-loop
 loop-again c =
     let turned = c .before .before .before in
     let looped = turned .before .before .before in
     let a = looped .before .before .args in
-    let on = onward (a .policy .now) (frames (a .state .now)) (a .target) (a .steps .now) (looped .loop .i) (looped .loop .chain) (turned .before .before .loop-test .taken) in
+    let on = onward (a .policy .now) (frames (a .state .now)) (a .target) (a .steps .now) (looped .loop .i) (looped .loop .chain)
+    (turned .before .before .loop-test .taken) in
     (omega arith, looped .loop .inv .1 ∙ on (c .before .turn .given .0 .0) (rw (c .before .turn .given .1) at (turned .follow .ensures)))
-
-conclude-requires : tie.Need-conclude-requires Inv-loop μ-loop
-conclude-requires c κs = search needs
 
 returns-2 : tie.Need-returns-2 Inv-loop μ-loop
 returns-2 c =
     let looped = c .before .before in
     let a = looped .before .before .args in
     let e : looped .loop .i ≡ length (a .steps .now) = omega arith in
-    rw (looped .loop .inv .1 ∙ at-end (a .policy .now) (frames (a .state .now)) (a .target) (a .steps .now) (looped .loop .i) (looped .loop .chain) e) (c .conclude .ensures)
+    rw (looped .loop .inv .1 ∙ at-end (a .policy .now) (frames (a .state .now)) (a .target) (a .steps .now) (looped .loop .i) (looped .loop .chain) e)
+    (c .conclude .ensures)
 
 pub judge-spec : {M : Type 1} → statement M
 judge-spec =
@@ -72,13 +55,13 @@ judge-spec =
     Inv-loop
     μ-loop
     loop-holds
-    shared-slice-read-follow
-    follow-requires
-    enum-known-turn
-    enum-told
+    (search needs)
+    (search needs)
+    (search needs)
+    (search needs)
     returns
-    add-i
-    loop-less
+    (search needs)
+    (search needs)
     loop-again
-    conclude-requires
+    (search needs)
     returns-2)

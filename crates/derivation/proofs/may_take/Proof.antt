@@ -8,42 +8,42 @@ use Rattle.derivation.proofs.may_take.Tie as tie
 returns : tie.Need-returns
 returns c = take-none _ _ (c .before .args .state .now) (c .if1 .taken)
 
-depth-requires : tie.Need-depth-requires
-depth-requires c κs = search needs
-
 returns-2 : tie.Need-returns-2
 returns-2 c = take-past _ _ (c .before .before .before .args .state .now) (c .before .before .if1 .left) (rw (c .before .depth .ensures) at (c .if2 .taken))
-
-frame-at-requires : tie.Need-frame-at-requires
-frame-at-requires c κs = search needs
-
-has-requires : tie.Need-has-requires
-has-requires c κs = search needs
 
 returns-3 : tie.Need-returns-3
 returns-3 c =
     let at-depth = c .before .before .before .before in
     let entry = at-depth .before .before in
-    rw (take-in (entry .args .target) (entry .args .n) (entry .args .state .now) (at-depth .before .if1 .left) (rw (at-depth .depth .ensures) at (c .before .before .before .if2 .left)), ← c .before .before .frame-at .ensures, ← c .before .has .ensures, not-true (c .before .has .result) (c .if3 .taken))
-
-none-disabled-requires : tie.Need-none-disabled-requires
-none-disabled-requires c κs = search needs
+    rw (
+      take-in (entry .args .target) (entry .args .n) (entry .args .state .now) (at-depth .before .if1 .left)
+          (rw (at-depth .depth .ensures) at (c .before .before .before .if2 .left)),
+      ← c .before .before .frame .ensures,
+      ← c .before .has .ensures,
+      not-true (c .before .has .result) (c .if3 .taken),
+    )
 
 returns-4 : tie.Need-returns-4
 returns-4 c =
     let past-if2 = c .before .before .before .before in
     let past-if1 = past-if2 .before .before in
-    rw (take-in (past-if1 .before .args .target) (past-if1 .before .args .n) (past-if1 .before .args .state .now) (past-if1 .if1 .left) (rw (past-if2 .before .depth .ensures) at (past-if2 .if2 .left)), ← c .before .before .before .frame-at .ensures, ← c .before .before .has .ensures, not-false (c .before .before .has .result) (c .before .if3 .left)) (c .none-disabled .ensures)
+    rw (
+      take-in (past-if1 .before .args .target) (past-if1 .before .args .n) (past-if1 .before .args .state .now) (past-if1 .if1 .left)
+          (rw (past-if2 .before .depth .ensures) at (past-if2 .if2 .left)),
+      ← c .before .before .before .frame .ensures,
+      ← c .before .before .has .ensures,
+      not-false (c .before .before .has .result) (c .before .if3 .left),
+    ) (c .none-disabled .ensures)
 
 pub may-take-spec : {M : Type 1} → statement M
 may-take-spec =
     tie.close
     (tie.spec
     returns
-    depth-requires
+    (search needs)
     returns-2
-    frame-at-requires
-    has-requires
+    (search needs)
+    (search needs)
     returns-3
-    none-disabled-requires
+    (search needs)
     returns-4)

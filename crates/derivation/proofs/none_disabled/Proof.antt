@@ -10,7 +10,7 @@ use Rattle.bits.proofs.Laws.{bit-none}
 use Rattle.beliefs.specs.declared.Marked.{Marked}
 use Rattle.beliefs.specs.Lists.{all}
 use Rattle.beliefs.specs.Stack.{nobody}
-use Rattle.walk.specs.State.{frames}
+use Rattle.walk.specs.Layout.{frames}
 use Rattle.derivation.proofs.Entries.{all-more, all-fails}
 use Rattle.derivation.proofs.none_disabled.Statement.{statement}
 use Rattle.derivation.proofs.none_disabled.Tie as tie
@@ -28,31 +28,16 @@ disabled-here : (c : tie.After-meet Inv-loop μ-loop)
 disabled-here c =
     let looped = c .before .before .before in
     let t = looped .before .before .args .target in
-    c .meet .ensures .alone _ (looped .before .with .ensures) ∙ ap (λ (m : Marked). bit (m .disabled) t) (c .before .frame-at .ensures)
-
-with-requires : tie.Need-with-requires Inv-loop μ-loop
-with-requires c κs = search needs
+    c .meet .ensures .alone _ (looped .before .with .ensures) ∙ ap (λ (m : Marked). bit (m .disabled) t) (c .before .frame .ensures)
 
 loop-holds : tie.Need-loop-holds Inv-loop μ-loop
 loop-holds c = (omega arith, refl)
-
-frame-at-requires : tie.Need-frame-at-requires Inv-loop μ-loop
-frame-at-requires c κs = search needs
-
-meet-requires : tie.Need-meet-requires Inv-loop μ-loop
-meet-requires c κs = search needs
 
 returns : tie.Need-returns Inv-loop μ-loop
 returns c =
     let looped = c .before .before .before in
     let t = looped .before .before .before .args .target in
     all-fails (λ (m : Marked). not (bit (m .disabled) t)) (rw (bit-none t)) _ _ _ (looped .loop-test .taken) (rw (← disabled-here (c .before), c .if1 .taken))
-
-add-k : tie.Need-add-k Inv-loop μ-loop
-add-k c = search needs
-
-loop-less : tie.Need-loop-less Inv-loop μ-loop
-loop-less c = search needs
 
 loop-again : tie.Need-loop-again Inv-loop μ-loop
 loop-again c =
@@ -70,12 +55,12 @@ none-disabled-spec =
     (tie.spec
     Inv-loop
     μ-loop
-    with-requires
+    (search needs)
     loop-holds
-    frame-at-requires
-    meet-requires
+    (search needs)
+    (search needs)
     returns
-    add-k
-    loop-less
+    (search needs)
+    (search needs)
     loop-again
     returns-2)

@@ -11,7 +11,7 @@ use Rattle.beliefs.specs.declared.Marked.{Marked}
 use Rattle.beliefs.specs.Policy.{row, permits}
 use Rattle.beliefs.specs.Stack.{nobody}
 use Rattle.beliefs.specs.Derivation.{allowed, place}
-use Rattle.walk.specs.State.{frames}
+use Rattle.walk.specs.Layout.{frames}
 use Rattle.derivation.proofs.Entries.{past, allowed-target, allowed-frame, allowed-barred, allowed-signer}
 use Rattle.derivation.proofs.permit.Statement.{statement}
 use Rattle.derivation.proofs.permit.Tie as tie
@@ -33,21 +33,15 @@ permitted c =
     let a = framed .before .before .before .before .before .before .before .args in
     c .meet .ensures .alone _ (c .before .with .ensures)
     ∙ ap (λ (w : ℕ). bit w (a .target)) (c .before .before .row .ensures)
-    ∙ ap (λ (m : Marked). bit (row (a .policy .now) (m .signer)) (a .target)) (framed .frame-at .ensures)
+    ∙ ap (λ (m : Marked). bit (row (a .policy .now) (m .signer)) (a .target)) (framed .frame .ensures)
 
 returns : tie.Need-returns
 returns c = let a = c .before .before .args in past (frames (a .state .now)) (a .chain) (place (a .step)) (allowed (a .policy .now) (a .target)) (c .if1 .taken)
-
-has-requires : tie.Need-has-requires
-has-requires c κs = search needs
 
 returns-2 : tie.Need-returns-2
 returns-2 c =
     let a = c .before .before .before .before .args in
     allowed-target (frames (a .state .now)) (a .chain) (place (a .step)) _ _ (sym (c .before .has .ensures) ∙ c .if2 .taken)
-
-has-requires-2 : tie.Need-has-requires-2
-has-requires-2 c κs = search needs
 
 returns-3 : tie.Need-returns-3
 returns-3 c =
@@ -55,30 +49,13 @@ returns-3 c =
     let a = undone .before .before .before .before .args in
     allowed-frame (frames (a .state .now)) (a .chain) (place (a .step)) _ _ (not-done undone) (sym (c .before .has2 .ensures) ∙ not-true _ (c .if3 .taken))
 
-cast-frame-at : tie.Need-cast-frame-at
-cast-frame-at c = search needs
-
-frame-at-requires : tie.Need-frame-at-requires
-frame-at-requires c κs = search needs
-
-row-requires : tie.Need-row-requires
-row-requires c κs = search needs
-
-with-requires : tie.Need-with-requires
-with-requires c κs = search needs
-
-meet-requires : tie.Need-meet-requires
-meet-requires c κs = search needs
-
 returns-4 : tie.Need-returns-4
 returns-4 c =
     let there = c .before .before .before .before .before in
     let undone = there .before .before in
     let a = undone .before .before .before .before .args in
-    allowed-barred (frames (a .state .now)) (a .chain) (place (a .step)) _ _ (not-done undone) (signer-there there) (sym (permitted (c .before)) ∙ not-true _ (c .if4 .taken))
-
-with-requires-2 : tie.Need-with-requires-2
-with-requires-2 c κs = search needs
+    allowed-barred (frames (a .state .now)) (a .chain) (place (a .step)) _ _ (not-done undone) (signer-there there)
+    (sym (permitted (c .before)) ∙ not-true _ (c .if4 .taken))
 
 returns-5 : tie.Need-returns-5
 returns-5 c =
@@ -95,15 +72,15 @@ permit-spec =
     tie.close
     (tie.spec
     returns
-    has-requires
+    (search needs)
     returns-2
-    has-requires-2
+    (search needs)
     returns-3
-    cast-frame-at
-    frame-at-requires
-    row-requires
-    with-requires
-    meet-requires
+    (search needs)
+    (search needs)
+    (search needs)
+    (search needs)
+    (search needs)
     returns-4
-    with-requires-2
+    (search needs)
     returns-5)

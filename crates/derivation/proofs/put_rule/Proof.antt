@@ -24,27 +24,6 @@ abbrev μ-loop : tie.MeasureT-loop
 loop-holds : tie.Need-loop-holds Inv-loop μ-loop
 loop-holds c = (omega arith, refl, rw (add-zero, sub-zero))
 
-mul-steps : tie.Need-mul-steps Inv-loop μ-loop
-mul-steps c = search needs
-
-cast-steps : tie.Need-cast-steps Inv-loop μ-loop
-cast-steps c = search needs
-
-add-steps : tie.Need-add-steps Inv-loop μ-loop
-add-steps c = search needs
-
-add-steps-2 : tie.Need-add-steps-2 Inv-loop μ-loop
-add-steps-2 c = search needs
-
-slice-write-steps : tie.Need-slice-write-steps Inv-loop μ-loop
-slice-write-steps c = search needs
-
-add-k : tie.Need-add-k Inv-loop μ-loop
-add-k c = search needs
-
-loop-less : tie.Need-loop-less Inv-loop μ-loop
-loop-less c = search needs
-
 loop-again : tie.Need-loop-again Inv-loop μ-loop
 loop-again c =
     let at-loop = c .before .loop in
@@ -65,13 +44,13 @@ put-rule-spec =
     Inv-loop
     μ-loop
     loop-holds
-    mul-steps
-    cast-steps
-    add-steps
-    add-steps-2
-    slice-write-steps
-    add-k
-    loop-less
+    (search needs)
+    (search needs)
+    (search needs)
+    (search needs)
+    (search needs)
+    (search needs)
+    (search needs)
     loop-again
     same-length
     returns)

@@ -10,32 +10,30 @@ use Rattle.derivation.proofs.speak.Tie as tie
 returns : tie.Need-returns
 returns c = record { over = λ ms. past ms (c .before .before .args .chain) (place (c .before .before .args .step)) spoken (c .if1 .taken) }
 
-has-requires : tie.Need-has-requires
-has-requires c κs = search needs
-
 returns-2 : tie.Need-returns-2
 returns-2 c =
     let entry = c .before .before .before .before in
     record { over = λ ms. spoken-target ms (entry .args .chain) (place (entry .args .step)) (sym (c .before .has .ensures) ∙ c .if2 .taken) }
 
-has-requires-2 : tie.Need-has-requires-2
-has-requires-2 c κs = search needs
-
 returns-3 : tie.Need-returns-3
 returns-3 c =
     let entry = c .before .before .before .before .before .before in
-    record { over = λ ms. spoken-signer ms (entry .args .chain) (place (entry .args .step)) (sym (c .before .before .before .has .ensures) ∙ c .before .before .if2 .left) (sym (c .before .has2 .ensures) ∙ c .if3 .taken) }
-
-with-requires : tie.Need-with-requires
-with-requires c κs = search needs
+    record {
+      over = λ ms. spoken-signer ms (entry .args .chain) (place (entry .args .step))
+          (sym (c .before .before .before .has .ensures) ∙ c .before .before .if2 .left) (sym (c .before .has2 .ensures) ∙ c .if3 .taken);
+    }
 
 returns-4 : tie.Need-returns-4
 returns-4 c =
     let at-has = c .before .before .before .before in
     let entry = at-has .before .before .before in
-    record { over = λ ms. rw (c .with .ensures) (spoken-frame ms (entry .args .chain) (place (entry .args .step)) (omega arith) (at-has .before .if1 .left) (sym (at-has .has .ensures) ∙ c .before .before .before .if2 .left) (sym (c .before .before .has2 .ensures) ∙ c .before .if3 .left)) }
+    record {
+      over = λ ms. rw (c .with .ensures)
+          (spoken-frame ms (entry .args .chain) (place (entry .args .step)) (omega arith) (at-has .before .if1 .left)
+          (sym (at-has .has .ensures) ∙ c .before .before .before .if2 .left) (sym (c .before .before .has2 .ensures) ∙ c .before .if3 .left));
+    }
 
 pub speak-spec : {M : Type 1} → statement M
 speak-spec =
     tie.close
-    (tie.spec returns has-requires returns-2 has-requires-2 returns-3 with-requires returns-4)
+    (tie.spec returns (search needs) returns-2 (search needs) returns-3 (search needs) returns-4)

@@ -13,46 +13,31 @@ use Rattle.derivation.proofs.write.Tie as tie
 through : (c : tie.Else1) → let a = c .before .before .before .args in barred (a .policy .now) (a .state .now) (a .target) ≡ 0
 through c = sym (c .before .barred .ensures) ∙ c .if1 .left
 
-barred-requires : tie.Need-barred-requires
-barred-requires c κs = search needs
-
 returns : tie.Need-returns
 returns c =
     let a = c .before .before .before .args in
-    rw (write-barred (a .policy .now) (a .state .now) (a .target) _ (c .before .barred .ensures) (c .if1 .taken) (length (a .steps .now))) (record { number = refl; figure = refl; buffer = refl })
-
-check-requires : tie.Need-check-requires
-check-requires c κs = search needs
+    rw (write-barred (a .policy .now) (a .state .now) (a .target) _ (c .before .barred .ensures) (c .if1 .taken) (length (a .steps .now))) (record {
+      number = refl;
+      figure = refl;
+      buffer = refl;
+    })
 
 returns-2 : tie.Need-returns-2
 returns-2 c =
     let seen = c .before .before in
     let a = seen .before .before .before .before .args in
-    rw (write-forbidden (a .policy .now) (a .state .now) (a .target) (through (seen .before)) _ (seen .check .ensures) (length (a .steps .now)) (not-true _ (c .if2 .taken)))
+    rw (write-forbidden (a .policy .now) (a .state .now) (a .target) (through (seen .before)) _ (seen .check .ensures) (length (a .steps .now))
+    (not-true _ (c .if2 .taken)))
     (record { number = refl; figure = refl; buffer = refl })
-
-mul-if3 : tie.Need-mul-if3
-mul-if3 c = search needs
-
-add-if3 : tie.Need-add-if3
-add-if3 c = search needs
 
 returns-3 : tie.Need-returns-3
 returns-3 c =
     let granted = c .before .before in
     let seen = granted .before .before in
     let a = seen .before .before .before .before .args in
-    rw (write-short (a .policy .now) (a .state .now) (a .target) (through (seen .before)) _ (seen .check .ensures) (length (a .steps .now)) (not-false _ (granted .if2 .left)) (c .if3 .taken))
+    rw (write-short (a .policy .now) (a .state .now) (a .target) (through (seen .before)) _ (seen .check .ensures) (length (a .steps .now))
+    (not-false _ (granted .if2 .left)) (c .if3 .taken))
     (record { number = refl; figure = refl; buffer = refl })
-
-write-ours-requires : tie.Need-write-ours-requires
-write-ours-requires c κs = search needs
-
-mul-t10 : tie.Need-mul-t10
-mul-t10 c = search needs
-
-add-t11 : tie.Need-add-t11
-add-t11 c = search needs
 
 same-length : tie.Need-same-length
 same-length c = ap length (c .before .before .write-ours .ensures) ∙ simp length-sets
@@ -63,22 +48,23 @@ returns-4 c =
     let granted = room .before .before in
     let seen = granted .before .before in
     let a = seen .before .before .before .before .args in
-    rw (write-done (a .policy .now) (a .state .now) (a .target) (through (seen .before)) _ (seen .check .ensures) (length (a .steps .now)) (not-false _ (granted .if2 .left)) (room .if3 .left))
+    rw (write-done (a .policy .now) (a .state .now) (a .target) (through (seen .before)) _ (seen .check .ensures) (length (a .steps .now))
+    (not-false _ (granted .if2 .left)) (room .if3 .left))
     (record { number = refl; figure = refl; buffer = c .before .before .write-ours .ensures })
 
 pub write-spec : {M : Type 1} → statement M
 write-spec =
     tie.close
     (tie.spec
-    barred-requires
+    (search needs)
     returns
-    check-requires
+    (search needs)
     returns-2
-    mul-if3
-    add-if3
+    (search needs)
+    (search needs)
     returns-3
-    write-ours-requires
-    mul-t10
-    add-t11
+    (search needs)
+    (search needs)
+    (search needs)
     same-length
     returns-4)

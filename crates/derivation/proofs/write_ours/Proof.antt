@@ -8,27 +8,12 @@ use Rattle.derivation.proofs.Ours.{ours-put}
 use Rattle.derivation.proofs.write_ours.Statement.{statement}
 use Rattle.derivation.proofs.write_ours.Tie as tie
 
-cast-steps : tie.Need-cast-steps
-cast-steps c = search needs
-
-slice-write-steps : tie.Need-slice-write-steps
-slice-write-steps c = search needs
-
 put-rule-requires : tie.Need-put-rule-requires
 put-rule-requires c κs = (omega arith, omega arith, simp length-set (omega arith))
-
-add-put-rule : tie.Need-add-put-rule
-add-put-rule c = search needs
 
 put-rule-requires-2 : tie.Need-put-rule-requires-2
 put-rule-requires-2 c κs =
     (omega arith, omega arith, rw (c .before .before .before .put-rule .ensures) (simp (length-sets, length-set) (omega arith)))
-
-mul-put-drops : tie.Need-mul-put-drops
-mul-put-drops c = search needs
-
-add-put-drops : tie.Need-add-put-drops
-add-put-drops c = search needs
 
 put-drops-requires : tie.Need-put-drops-requires
 put-drops-requires c κs =
@@ -51,13 +36,13 @@ pub write-ours-spec : {M : Type 1} → statement M
 write-ours-spec =
     tie.close
     (tie.spec
-    cast-steps
-    slice-write-steps
+    (search needs)
+    (search needs)
     put-rule-requires
-    add-put-rule
+    (search needs)
     put-rule-requires-2
-    mul-put-drops
-    add-put-drops
+    (search needs)
+    (search needs)
     put-drops-requires
     same-length
     returns)

@@ -6,23 +6,12 @@ use Rattle.galmuvesh.proofs.Passing.{moves-by}
 use Rattle.galmuvesh.proofs.galmuvesh_passed_call.Statement.{statement}
 use Rattle.galmuvesh.proofs.galmuvesh_passed_call.Tie as tie
 
-passed-in-requires : tie.Need-passed-in-requires
-passed-in-requires c κs = search needs
-
-refusal-requires : tie.Need-refusal-requires
-refusal-requires c κs = search needs
-
-call-requires : tie.Need-call-requires
-call-requires c κs = search needs
-
-put-requires : tie.Need-put-requires
-put-requires c κs = search needs
-
 returns : tie.Need-returns
 returns c =
     let s = c .before .before .before .before .before .passed-in in
     let n = c .before .before .before .before .refusal in
-    moves-by _ _ _ refl _ _ (rw (← s .ensures) (n .ensures)) (rw (eq-eqb _ _ (c .before .before .before .if1 .taken), ← s .ensures, ← c .before .call .ensures) (c .put .ensures))
+    moves-by _ _ _ refl _ _ (rw (← s .ensures) (n .ensures))
+    (rw (eq-eqb _ _ (c .before .before .before .if1 .taken), ← s .ensures, ← c .before .call .ensures) (c .put .ensures))
 
 returns-2 : tie.Need-returns-2
 returns-2 c = moves-by _ _ _ refl _ _ (rw (← c .before .before .passed-in .ensures) (c .before .refusal .ensures)) (rw (ne-eqb _ _ (c .if1 .left)))
@@ -30,4 +19,4 @@ returns-2 c = moves-by _ _ _ refl _ _ (rw (← c .before .before .passed-in .ens
 pub galmuvesh-passed-call-spec : {M : Type 1} → statement M
 galmuvesh-passed-call-spec =
     tie.close
-    (tie.spec passed-in-requires refusal-requires call-requires put-requires returns returns-2)
+    (tie.spec (search needs) (search needs) (search needs) (search needs) returns returns-2)

@@ -5,22 +5,11 @@ use Rattle.galmuvesh.proofs.Passing.{asks-by}
 use Rattle.galmuvesh.proofs.galmuvesh_passed_check.Statement.{statement}
 use Rattle.galmuvesh.proofs.galmuvesh_passed_check.Tie as tie
 
-passed-in-requires : tie.Need-passed-in-requires
-passed-in-requires c κs = search needs
-
-refusal-requires : tie.Need-refusal-requires
-refusal-requires c κs = search needs
-
-check-requires : tie.Need-check-requires
-check-requires c κs = search needs
-
-verdict-byte-requires : tie.Need-verdict-byte-requires
-verdict-byte-requires c κs = search needs
-
 returns : tie.Need-returns
 returns c =
     let s = c .before .before .before .before .passed-in in
-    asks-by _ _ _ _ _ _ (rw (← s .ensures) (c .before .before .before .refusal .ensures)) (rw (eq-eqb _ _ (c .before .before .if1 .taken), ← s .ensures, ← c .before .check .ensures) (c .verdict-byte .ensures))
+    asks-by _ _ _ _ _ _ (rw (← s .ensures) (c .before .before .before .refusal .ensures))
+    (rw (eq-eqb _ _ (c .before .before .if1 .taken), ← s .ensures, ← c .before .check .ensures) (c .verdict-byte .ensures))
 
 returns-2 : tie.Need-returns-2
 returns-2 c = asks-by _ _ _ _ _ _ (rw (← c .before .before .passed-in .ensures) (c .before .refusal .ensures)) (rw (ne-eqb _ _ (c .if1 .left)))
@@ -28,4 +17,4 @@ returns-2 c = asks-by _ _ _ _ _ _ (rw (← c .before .before .passed-in .ensures
 pub galmuvesh-passed-check-spec : {M : Type 1} → statement M
 galmuvesh-passed-check-spec =
     tie.close
-    (tie.spec passed-in-requires refusal-requires check-requires verdict-byte-requires returns returns-2)
+    (tie.spec (search needs) (search needs) (search needs) (search needs) returns returns-2)

@@ -16,18 +16,6 @@ all-four (w ∷ x ∷ []) a b c d e = absurd (omega arith)
 all-four (w ∷ x ∷ y ∷ []) a b c d e = absurd (omega arith)
 all-four (w ∷ x ∷ y ∷ z ∷ v ∷ l) a b c d e = absurd (omega arith)
 
-element-write-state : tie.Need-element-write-state
-element-write-state c = search needs
-
-element-write-state-2 : tie.Need-element-write-state-2
-element-write-state-2 c = search needs
-
-element-write-state-3 : tie.Need-element-write-state-3
-element-write-state-3 c = search needs
-
-element-write-state-4 : tie.Need-element-write-state-4
-element-write-state-4 c = search needs
-
 returns : tie.Need-returns
 returns c =
     all-four
@@ -42,8 +30,8 @@ pub put-spec : {M : Type 1} → statement M
 put-spec =
     tie.close
     (tie.spec
-    element-write-state
-    element-write-state-2
-    element-write-state-3
-    element-write-state-4
+    (search needs)
+    (search needs)
+    (search needs)
+    (search needs)
     returns)

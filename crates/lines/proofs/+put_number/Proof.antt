@@ -1,13 +1,13 @@
 -- Below ten the one digit is the number; else the digits of its tenth part stand before its last. The number itself falls.
 use borrow.Author.Needs.{needs}
-use native.Mathlib.Omega.{arith}
-use mathlib.Core.Path.{ap}
-use lib.ListN.{length}
-use Rattle.lines.proofs.Digits.{decimal-one, decimal-more, decimal-tenth}
-use Rattle.lines.proofs.After.{then, one}
-use Prim.Native.Nat.{ℕ, _<_}
 use borrow.Fn.Kinds.{In}
 use borrow.Fn.PlainCycle.{Measures, is, falls, and}
+use native.Mathlib.Omega.{arith}
+use mathlib.Core.Path.{ap}
+use Prim.Native.Nat.{ℕ, _<_}
+use lib.ListN.{length}
+use Rattle.lines.proofs.Digits.{decimal-one, decimal-more, decimal-tenth, tenth-end}
+use Rattle.lines.proofs.After.{then, one}
 use Rattle.lines.proofs.put_number.Reads as put-number
 use Rattle.lines.proofs.put_number.Kinds as put-number-kinds
 use Rattle.lines.proofs.+put_number.Lts-put_number as put-number-lts
@@ -25,110 +25,39 @@ abbrev put-number-below : ℕ → In 1 put-number-kinds.ps
 put-number-below t =
     and 1 put-number-kinds.ps (falls 1 put-number-kinds.ps _<_ μ-put-number t) put-number.Pre
 
--- src/lib.rt:41:24
-put-number-cast-out :
-    (t : ℕ) →
-    put-number-lts.Need-cast-out
-    (put-number-below t, put-number.Post)
-    (put-number-at t)
-    put-number.Post
-put-number-cast-out t c = search needs
-
--- src/lib.rt:41:19
-put-number-add-out :
-    (t : ℕ) →
-    put-number-lts.Need-add-out
-    (put-number-below t, put-number.Post)
-    (put-number-at t)
-    put-number.Post
-put-number-add-out t c = search needs
-
--- src/lib.rt:41:9
 put-number-slice-write-out : (t : ℕ) → put-number-lts.Need-slice-write-out (
   put-number-below t,
   put-number.Post,
 ) (put-number-at t) put-number.Post
-put-number-slice-write-out t c =
-    let n = c .before .before .args .n in
-    omega (arith, ap length (decimal-one n (c .if1 .taken)))
+put-number-slice-write-out t c = omega (arith, ap length (decimal-one (c .before .before .args .n) (c .if1 .taken)))
 
--- src/lib.rt:42:16
-put-number-add-result : (t : ℕ) → put-number-lts.Need-add-result (
-  put-number-below t,
-  put-number.Post,
-) (put-number-at t) put-number.Post
-put-number-add-result t c = search needs
-
--- src/lib.rt:42:9
-put-number-same-length : (t : ℕ) → put-number-lts.Need-same-length (
-  put-number-below t,
-  put-number.Post,
-) (put-number-at t) put-number.Post
-put-number-same-length t c = search needs
-
--- src/lib.rt:42:9
-put-number-returns :
-    (t : ℕ) →
-    put-number-lts.Need-returns
-    (put-number-below t, put-number.Post)
-    (put-number-at t)
-    put-number.Post
+put-number-returns : (t : ℕ) → put-number-lts.Need-returns (put-number-below t, put-number.Post) (put-number-at t) put-number.Post
 put-number-returns t c = rw (decimal-one (c .before .before .args .n) (c .if1 .taken)) (one _ _ _)
 
--- src/lib.rt:44:9
 put-number-put-number-requires : (t : ℕ) → put-number-lts.Need-put-number-requires (
   put-number-below t,
   put-number.Post,
 ) (put-number-at t) put-number.Post
 put-number-put-number-requires t c κs =
-    let n = c .before .before .before .args .n in
-    let shorter = decimal-tenth n (omega arith) (c .before .if1 .left) in
+    let shorter = decimal-tenth (c .before .before .before .args .n) (omega arith) (c .before .if1 .left) in
     (omega arith, omega arith)
 
--- src/lib.rt:45:21
-put-number-cast-out-2 : (t : ℕ) → put-number-lts.Need-cast-out-2 (
-  put-number-below t,
-  put-number.Post,
-) (put-number-at t) put-number.Post
-put-number-cast-out-2 t c = search needs
-
--- src/lib.rt:45:16
-put-number-add-out-2 : (t : ℕ) → put-number-lts.Need-add-out-2 (
-  put-number-below t,
-  put-number.Post,
-) (put-number-at t) put-number.Post
-put-number-add-out-2 t c = search needs
-
--- src/lib.rt:45:5
 put-number-slice-write-out-2 : (t : ℕ) → put-number-lts.Need-slice-write-out-2 (
   put-number-below t,
   put-number.Post,
 ) (put-number-at t) put-number.Post
 put-number-slice-write-out-2 t c =
     let past-if1 = c .before .before .before .before in
-    let entry = past-if1 .before .before in
-    let shorter = decimal-tenth (entry .args .n) (omega arith) (past-if1 .if1 .left) in
-    omega (arith, c .before .before .put-number .ensures .until)
+    omega (arith, tenth-end (past-if1 .before .before .args .n) (omega arith) (past-if1 .if1 .left) (c .before .before .put-number .ensures))
 
--- src/lib.rt:46:5
 put-number-add-result-2 : (t : ℕ) → put-number-lts.Need-add-result-2 (
   put-number-below t,
   put-number.Post,
 ) (put-number-at t) put-number.Post
 put-number-add-result-2 t c =
     let past-if1 = c .before .before .before .before in
-    let entry = past-if1 .before .before in
-    let shorter = decimal-tenth (entry .args .n) (omega arith) (past-if1 .if1 .left) in
-    omega (arith, c .before .before .put-number .ensures .until)
+    omega (arith, tenth-end (past-if1 .before .before .args .n) (omega arith) (past-if1 .if1 .left) (c .before .before .put-number .ensures))
 
--- src/lib.rt:36:1
-put-number-same-length-2 : (t : ℕ) → put-number-lts.Need-same-length-2 (
-  put-number-below t,
-  put-number.Post,
-) (put-number-at t) put-number.Post
-put-number-same-length-2 t c = search needs
-
--- src/lib.rt:36:1
 put-number-returns-2 : (t : ℕ) → put-number-lts.Need-returns-2 (
   put-number-below t,
   put-number.Post,
@@ -145,16 +74,16 @@ pub +put-number-spec : {M : Type 1} → statement M
 )
     (put-number-at t)
     put-number.Post
-    (put-number-cast-out t)
-    (put-number-add-out t)
+    (search needs)
+    (search needs)
     (put-number-slice-write-out t)
-    (put-number-add-result t)
-    (put-number-same-length t)
+    (search needs)
+    (search needs)
     (put-number-returns t)
     (put-number-put-number-requires t)
-    (put-number-cast-out-2 t)
-    (put-number-add-out-2 t)
+    (search needs)
+    (search needs)
     (put-number-slice-write-out-2 t)
     (put-number-add-result-2 t)
-    (put-number-same-length-2 t)
+    (λ c. search needs)
     (put-number-returns-2 t)

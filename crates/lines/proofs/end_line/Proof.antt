@@ -6,22 +6,10 @@ use Rattle.lines.proofs.After.{carried}
 use Rattle.lines.proofs.end_line.Statement.{statement}
 use Rattle.lines.proofs.end_line.Tie as tie
 
-slice-aggregate-put-end : tie.Need-slice-aggregate-put-end
-slice-aggregate-put-end c = search needs
-
-put-end-requires : tie.Need-put-end-requires
-put-end-requires c κs = search needs
-
-slice-aggregate-deliver : tie.Need-slice-aggregate-deliver
-slice-aggregate-deliver c = search needs
-
 deliver-requires : tie.Need-deliver-requires
 deliver-requires c κs =
     let entry = c .before .before .before .before .before .before in
     omega (arith, c .before .before .before .put-end .ensures .until, end-short (entry .args .words))
-
-same-length : tie.Need-same-length
-same-length c = search needs
 
 returns : tie.Need-returns
 returns c =
@@ -33,9 +21,9 @@ pub end-line-spec : {M : Type 1} → statement M
 end-line-spec =
     tie.close
     (tie.spec
-    slice-aggregate-put-end
-    put-end-requires
-    slice-aggregate-deliver
+    (search needs)
+    (search needs)
+    (search needs)
     deliver-requires
-    same-length
+    (search needs)
     returns)

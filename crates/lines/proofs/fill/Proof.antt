@@ -2,7 +2,8 @@
 use borrow.Author.Needs.{needs}
 use native.Mathlib.Omega.{arith}
 use mathlib.Core.Path.{_≡_, refl, sym, _∙_}
-use Prim.Native.Nat.{_-_, _≤_}
+use mathlib.Core.List.{List}
+use Prim.Native.Nat.{ℕ, _-_, _/_, _≤_}
 use lib.ListN.{length}
 use Rattle.lines.specs.Page.{lineAt}
 use Rattle.lines.proofs.After.{Composed, composed}
@@ -19,37 +20,31 @@ Inv-loop policy trace answers report from out₀ line₀ end next₀ at₀ out l
 abbrev μ-loop : tie.MeasureT-loop
 μ-loop policy trace answers report from out₀ line₀ end next₀ at₀ out line next at = end - next
 
--- the line at `next`, composed apart
-composed-at : (c : tie.After-put-at Inv-loop μ-loop)
-    → let a = c .before .before .before .before .before .before .before .before .args in
-    Composed (c .put-at .result) (c .put-at .last .1 .1 .1 .1 .1 .0) (lineAt (a .policy .now) (a .trace .now) (a .answers .now) (a .report) (c .before .before .before .loop .next))
-composed-at c =
-    let a = c .before .before .before .before .before .before .before .before .args in
-    let k = c .before .before .before .loop .next in
-    composed {bytes = lineAt (a .policy .now) (a .trace .now) (a .answers .now) (a .report) k} (c .put-at .ensures) (c .before .before .before .loop .inv .1 .1 .0)
-    (line-short (a .policy .now) (a .trace .now) (a .answers .now) (a .report) k)
+-- the lines of the run that is listed
+abbrev line : tie.Start Inv-loop μ-loop → ℕ → List ℕ
+line c = lineAt (c .args .policy .now) (c .args .trace .now) (c .args .answers .now) (c .args .report)
 
-words-run-requires : tie.Need-words-run-requires Inv-loop μ-loop
-words-run-requires c κs = search needs
+-- that at `next`, composed apart
+composed-at : (c : tie.After-put-at Inv-loop μ-loop) → let turn = c .before .before .before in
+    Composed (c .put-at .result) (c .put-at .last .1 .1 .1 .1 .1 .0) (line (turn .before .before .before .before .before) (turn .loop .next))
+composed-at c =
+    let turn = c .before .before .before in
+    let entry = turn .before .before .before .before .before in
+    composed {bytes = line entry (turn .loop .next)} (c .put-at .ensures) (turn .loop .inv .1 .1 .0)
+    (line-short (entry .args .policy .now) (entry .args .trace .now) (entry .args .answers .now) (entry .args .report) (turn .loop .next))
+
+-- no more lines than a trace has words, and two
+end-most : (c : tie.After-words-run Inv-loop μ-loop) → let trace = c .before .before .before .before .args .trace .now in
+    c .words-run .result ≤ length trace / 2
+end-most c =
+    let a = c .before .before .before .before .args in
+    rw (c .words-run .ensures) (run-most (a .trace .now) (a .report .figure))
 
 add-end : tie.Need-add-end Inv-loop μ-loop
-add-end c =
-    let entry = c .before .before .before .before in
-    omega (arith, c .words-run .ensures, run-most (entry .args .trace .now) (entry .args .report .figure))
+add-end c = omega (arith, end-most c)
 
 loop-holds : tie.Need-loop-holds Inv-loop μ-loop
-loop-holds c =
-    let entry = c .before .before .before .before in
-    (omega arith, (refl, (refl, begun (lineAt (entry .args .policy .now) (entry .args .trace .now) (entry .args .answers .now) (entry .args .report)) _ _ _)))
-
-slice-aggregate-put-at : tie.Need-slice-aggregate-put-at Inv-loop μ-loop
-slice-aggregate-put-at c = search needs
-
-put-at-requires : tie.Need-put-at-requires Inv-loop μ-loop
-put-at-requires c κs = search needs
-
-sub-if1 : tie.Need-sub-if1 Inv-loop μ-loop
-sub-if1 c = search needs
+loop-holds c = (omega arith, (refl, (refl, begun (line (c .before .before .before .before)) _ _ _)))
 
 same-length : tie.Need-same-length Inv-loop μ-loop
 same-length c = c .before .before .before .before .before .loop .inv .1 .0
@@ -58,7 +53,8 @@ returns : tie.Need-returns Inv-loop μ-loop
 returns c =
     let turn = c .before .before .before .before .before in
     let entry = turn .before .before .before .before .before in
-    rw (← turn .before .words-run .ensures) (full (lineAt (entry .args .policy .now) (entry .args .trace .now) (entry .args .answers .now) (entry .args .report)) (turn .loop .inv .1 .1 .1) (omega (arith, c .if1 .taken, composed-at (c .before .before) .len, turn .loop .inv .1 .0)))
+    rw (← turn .before .words-run .ensures)
+    (full (line entry) (turn .loop .inv .1 .1 .1) (omega (arith, c .if1 .taken, composed-at (c .before .before) .len, turn .loop .inv .1 .0)))
 
 array-share-prefix-line : tie.Need-array-share-prefix-line Inv-loop μ-loop
 array-share-prefix-line c = composed-at (c .before .before .before) .within
@@ -68,27 +64,25 @@ slice-aggregate-put c = sym (composed-at (c .before .before .before .before) .sp
 
 put-requires : tie.Need-put-requires Inv-loop μ-loop
 put-requires c κs =
-    let looped = c .before .before .before .before .before .before .before in
-    omega (arith, composed-at (c .before .before .before .before) .span, c .before .before .if1 .left, looped .loop .inv .0, looped .loop .inv .1 .0)
+    let turn = c .before .before .before .before .before .before .before in
+    let composed = composed-at (c .before .before .before .before) in
+    omega (arith, composed .span, c .before .before .if1 .left, turn .loop .inv .0, turn .loop .inv .1 .0)
 
 add-next : tie.Need-add-next Inv-loop μ-loop
 add-next c =
     let inside = c .before .before .before .before .before .before .before .before .before in
-    let at-words-run = inside .before .before in
-    let entry = at-words-run .before .before .before .before in
-    omega (arith, inside .loop-test .taken, at-words-run .words-run .ensures, run-most (entry .args .trace .now) (entry .args .report .figure))
-
-loop-less : tie.Need-loop-less Inv-loop μ-loop
-loop-less c = search needs
+    omega (arith, inside .loop-test .taken, end-most (inside .before .before))
 
 loop-again : tie.Need-loop-again Inv-loop μ-loop
 loop-again c =
-    let looped = c .before .before .before .before .before .before .before .before .before .before in
-    let line = composed-at (c .before .before .before .before .before .before .before) in
-    let put = rw (line .text) at (c .before .before .put .ensures) in (
-      omega (arith, put .until, c .before .before .before .before .before .if1 .left, line .len, looped .loop .inv .0, looped .loop .inv .1 .0),
-      (c .before .before .put .kept .0 ∙ looped .loop .inv .1 .0, (line .room, onward _ (looped .loop .inv .1 .1 .1) (c .before .before .before .before .before .before .before .before .before .loop-test .taken) (omega (arith, c .before .before .before .before .before .if1 .left, line .len, looped .loop .inv .1 .0)) put)),
-    )
+    let past-if1 = c .before .before .before .before .before in
+    let inside = past-if1 .before .before .before .before in
+    let inv = inside .before .loop .inv in
+    let composed = composed-at (past-if1 .before .before) in
+    let put = rw (composed .text) at (c .before .before .put .ensures) in
+    let left = past-if1 .if1 .left in
+    let further = onward _ (inv .1 .1 .1) (inside .loop-test .taken) (omega (arith, left, composed .len, inv .1 .0)) put in
+    (omega (arith, put .until, left, composed .len, inv .0, inv .1 .0), (c .before .before .put .kept .0 ∙ inv .1 .0, (composed .room, further)))
 
 same-length-2 : tie.Need-same-length-2 Inv-loop μ-loop
 same-length-2 c = c .before .loop .inv .1 .0
@@ -96,7 +90,7 @@ same-length-2 c = c .before .loop .inv .1 .0
 returns-2 : tie.Need-returns-2 Inv-loop μ-loop
 returns-2 c =
     let entry = c .before .before .before .before .before .before in
-    rw (← c .before .before .words-run .ensures) (finished (lineAt (entry .args .policy .now) (entry .args .trace .now) (entry .args .answers .now) (entry .args .report)) (c .before .loop .inv .1 .1 .1) (c .loop-test .left))
+    rw (← c .before .before .words-run .ensures) (finished (line entry) (c .before .loop .inv .1 .1 .1) (c .loop-test .left))
 
 pub fill-spec : {M : Type 1} → statement M
 fill-spec =
@@ -104,19 +98,19 @@ fill-spec =
     (tie.spec
     Inv-loop
     μ-loop
-    words-run-requires
+    (search needs)
     add-end
     loop-holds
-    slice-aggregate-put-at
-    put-at-requires
-    sub-if1
+    (search needs)
+    (search needs)
+    (search needs)
     same-length
     returns
     array-share-prefix-line
     slice-aggregate-put
     put-requires
     add-next
-    loop-less
+    (search needs)
     loop-again
     same-length-2
     returns-2)

@@ -6,22 +6,10 @@ use Rattle.lines.proofs.After.{carried}
 use Rattle.lines.proofs.refused_line.Statement.{statement}
 use Rattle.lines.proofs.refused_line.Tie as tie
 
-slice-aggregate-put-refused : tie.Need-slice-aggregate-put-refused
-slice-aggregate-put-refused c = search needs
-
-put-refused-requires : tie.Need-put-refused-requires
-put-refused-requires c κs = search needs
-
-slice-aggregate-deliver : tie.Need-slice-aggregate-deliver
-slice-aggregate-deliver c = search needs
-
 deliver-requires : tie.Need-deliver-requires
 deliver-requires c κs =
     let entry = c .before .before .before .before .before .before in
     omega (arith, c .before .before .before .put-refused .ensures .until, refused-short (entry .args .number) (entry .args .index))
-
-same-length : tie.Need-same-length
-same-length c = search needs
 
 returns : tie.Need-returns
 returns c =
@@ -33,9 +21,9 @@ pub refused-line-spec : {M : Type 1} → statement M
 refused-line-spec =
     tie.close
     (tie.spec
-    slice-aggregate-put-refused
-    put-refused-requires
-    slice-aggregate-deliver
+    (search needs)
+    (search needs)
+    (search needs)
     deliver-requires
-    same-length
+    (search needs)
     returns)

@@ -14,20 +14,8 @@ use Rattle.listing.proofs.print_listing.Tie as tie
 cut-in : (c : tie.After-cut) → c .cut .result ≤ length (now (c .before .before .args .input))
 cut-in c = rw (c .cut .ensures) (cut-most (now (c .before .before .args .input)))
 
-cut-requires : tie.Need-cut-requires
-cut-requires c κs = search needs
-
 slice-aggregate-read : tie.Need-slice-aggregate-read
 slice-aggregate-read c = sym (length-take-le _ _ (cut-in (c .before)))
-
-read-requires : tie.Need-read-requires
-read-requires c κs = search needs
-
-print-refused-requires : tie.Need-print-refused-requires
-print-refused-requires c κs = search needs
-
-returns : tie.Need-returns
-returns c = search needs
 
 sub-print-run : tie.Need-sub-print-run
 sub-print-run c = omega (arith, cut-in (c .before .before .before .before .before))
@@ -38,23 +26,17 @@ part-print-run-start c = omega (arith, cut-in (c .before .before .before .before
 part-print-run-end : tie.Need-part-print-run-end
 part-print-run-end c = omega (arith, cut-in (c .before .before .before .before .before))
 
-print-run-requires : tie.Need-print-run-requires
-print-run-requires c κs = search needs
-
-returns-2 : tie.Need-returns-2
-returns-2 c = search needs
-
 pub print-listing-spec : {M : Type 1} → statement M
 print-listing-spec =
     tie.close
     (tie.spec
-    cut-requires
+    (search needs)
     slice-aggregate-read
-    read-requires
-    print-refused-requires
-    returns
+    (search needs)
+    (search needs)
+    (search needs)
     sub-print-run
     part-print-run-start
     part-print-run-end
-    print-run-requires
-    returns-2)
+    (search needs)
+    (search needs))

@@ -20,22 +20,8 @@ page-front : (c : tie.After-fill Inv-loop μ-loop) → Front (c .fill .result .l
 page-front c =
     let turn = c .before .before in
     let a = turn .before .before .before .before .args in
-    filled-front (lineAt (a .policy .now) (a .trace .now) (a .answers .now) (a .report)) (turn .loop .place) (places (a .trace .now) (a .report) - turn .loop .place) (c .fill .ensures)
-
-large-buffer-requires : tie.Need-large-buffer-requires Inv-loop μ-loop
-large-buffer-requires c κs = search needs
-
-loop-holds : tie.Need-loop-holds Inv-loop μ-loop
-loop-holds c = search needs
-
-slice-aggregate-fill : tie.Need-slice-aggregate-fill Inv-loop μ-loop
-slice-aggregate-fill c = search needs
-
-fill-requires : tie.Need-fill-requires Inv-loop μ-loop
-fill-requires c κs = search needs
-
-returns : tie.Need-returns Inv-loop μ-loop
-returns c = search needs
+    let line = lineAt (a .policy .now) (a .trace .now) (a .answers .now) (a .report) in
+    filled-front line (turn .loop .place) (places (a .trace .now) (a .report) - turn .loop .place) (c .fill .ensures)
 
 array-share-prefix-page : tie.Need-array-share-prefix-page Inv-loop μ-loop
 array-share-prefix-page c = page-front (c .before .before .before) .within
@@ -43,21 +29,13 @@ array-share-prefix-page c = page-front (c .before .before .before) .within
 slice-aggregate-write-all : tie.Need-slice-aggregate-write-all Inv-loop μ-loop
 slice-aggregate-write-all c = page-front (c .before .before .before .before) .span
 
-write-all-requires : tie.Need-write-all-requires Inv-loop μ-loop
-write-all-requires c κs = search needs
-
-returns-2 : tie.Need-returns-2 Inv-loop μ-loop
-returns-2 c = search needs
-
 loop-less : tie.Need-loop-less Inv-loop μ-loop
 loop-less c =
     let filled = c .before .before .before .before .before .before in
     let turn = filled .before .before in
     let a = turn .before .before .before .before .args in
-    filled-falls (lineAt (a .policy .now) (a .trace .now) (a .answers .now) (a .report)) (turn .loop .place) (places (a .trace .now) (a .report)) (filled .fill .ensures) (c .before .before .before .if1 .left)
-
-loop-again : tie.Need-loop-again Inv-loop μ-loop
-loop-again c = search needs
+    let line = lineAt (a .policy .now) (a .trace .now) (a .answers .now) (a .report) in
+    filled-falls line (turn .loop .place) (places (a .trace .now) (a .report)) (filled .fill .ensures) (c .before .before .before .if1 .left)
 
 pub print-pages-spec : {M : Type 1} → statement M
 print-pages-spec =
@@ -65,14 +43,14 @@ print-pages-spec =
     (tie.spec
     Inv-loop
     μ-loop
-    large-buffer-requires
-    loop-holds
-    slice-aggregate-fill
-    fill-requires
-    returns
+    (search needs)
+    (search needs)
+    (search needs)
+    (search needs)
+    (search needs)
     array-share-prefix-page
     slice-aggregate-write-all
-    write-all-requires
-    returns-2
+    (search needs)
+    (search needs)
     loop-less
-    loop-again)
+    (search needs))

@@ -24,18 +24,6 @@ returns : tie.Need-returns
 unfolding cutAt
 returns c = rw (lt-ltb _ _ (c .if1 .taken))
 
-header-requires : tie.Need-header-requires
-header-requires c κs = search needs
-
-head-signers-requires : tie.Need-head-signers-requires
-head-signers-requires c κs = search needs
-
-head-targets-requires : tie.Need-head-targets-requires
-head-targets-requires c κs = search needs
-
-size-requires : tie.Need-size-requires
-size-requires c κs = search needs
-
 returns-2 : tie.Need-returns-2
 returns-2 c = rw (past (c .before), lt-ltb _ _ (c .if2 .taken))
 
@@ -43,4 +31,4 @@ returns-3 : tie.Need-returns-3
 returns-3 c = rw (past (c .before), le-ltb _ _ (c .if2 .left))
 
 pub cut-spec : {M : Type 1} → statement M
-cut-spec = tie.close (tie.spec returns header-requires head-signers-requires head-targets-requires size-requires returns-2 returns-3)
+cut-spec = tie.close (tie.spec returns (search needs) (search needs) (search needs) (search needs) returns-2 returns-3)

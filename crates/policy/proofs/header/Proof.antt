@@ -4,17 +4,11 @@ use native.Mathlib.Omega.{arith}
 use Rattle.policy.proofs.header.Statement.{statement}
 use Rattle.policy.proofs.header.Tie as tie
 
-shared-slice-read-result : tie.Need-shared-slice-read-result
-shared-slice-read-result c = search needs
-
 cast-result : tie.Need-cast-result
 cast-result c = omega (arith, c .shared-slice-known .given 0)
 
 mul-result : tie.Need-mul-result
 mul-result c = omega (arith, c .shared-slice-known .given 0)
-
-shared-slice-read-result-2 : tie.Need-shared-slice-read-result-2
-shared-slice-read-result-2 c = search needs
 
 cast-result-2 : tie.Need-cast-result-2
 cast-result-2 c = omega (arith, c .shared-slice-known2 .given 1)
@@ -22,17 +16,14 @@ cast-result-2 c = omega (arith, c .shared-slice-known2 .given 1)
 add-result : tie.Need-add-result
 add-result c = omega (arith, c .shared-slice-known2 .given 0, c .shared-slice-known2 .given 1)
 
-returns : tie.Need-returns
-returns c = search needs
-
 pub header-spec : {M : Type 1} → statement M
 header-spec =
     tie.close
     (tie.spec
-    shared-slice-read-result
+    (search needs)
     cast-result
     mul-result
-    shared-slice-read-result-2
+    (search needs)
     cast-result-2
     add-result
-    returns)
+    (search needs))

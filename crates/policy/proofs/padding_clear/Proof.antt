@@ -33,17 +33,12 @@ every bytes rows wide n r e =
     sym (all-each (λ w. below w n) (rowsOf rows wide (drop 2 bytes)) ∙ rw (length-rows rows wide (drop 2 bytes)) e)
 
 this : (c : tie.After-fits2 Inv-loop μ-loop)
-    → let a = c .before .before .before .before .before .args in clear (now (a .bytes)) (a .rows) (a .wide) (a .n) (c .before .before .before .loop .s) ≡ c .fits2 .result
+    → let a =
+    c .before .before .before .before .before .args in clear (now (a .bytes)) (a .rows) (a .wide) (a .n) (c .before .before .before .loop .s) ≡ c .fits2 .result
 this c = rw (← c .before .row-in .ensures) (sym (c .fits2 .ensures))
 
 loop-holds : tie.Need-loop-holds Inv-loop μ-loop
 loop-holds c = (each-none _, omega arith)
-
-row-in-requires : tie.Need-row-in-requires Inv-loop μ-loop
-row-in-requires c κs = search needs
-
-fits-requires : tie.Need-fits-requires Inv-loop μ-loop
-fits-requires c κs = search needs
 
 returns : tie.Need-returns Inv-loop μ-loop
 returns c =
@@ -74,8 +69,8 @@ padding-clear-spec =
     Inv-loop
     μ-loop
     loop-holds
-    row-in-requires
-    fits-requires
+    (search needs)
+    (search needs)
     returns
     add-s
     loop-less

@@ -8,23 +8,8 @@ use Rattle.beliefs.proofs.Policy.{ranges}
 use Rattle.policy.proofs.put.Statement.{statement}
 use Rattle.policy.proofs.put.Tie as tie
 
-headed-requires : tie.Need-headed-requires
-headed-requires c κs = search needs
-
-targets-requires : tie.Need-targets-requires
-targets-requires c κs = search needs
-
-width-requires : tie.Need-width-requires
-width-requires c κs = search needs
-
 cast-bytes : tie.Need-cast-bytes
 cast-bytes c = omega (arith, ranges _ (c .before .before .before .before .pre .0))
-
-slice-write-bytes : tie.Need-slice-write-bytes
-slice-write-bytes c = search needs
-
-cast-bytes-2 : tie.Need-cast-bytes-2
-cast-bytes-2 c = search needs
 
 slice-write-bytes-2 : tie.Need-slice-write-bytes-2
 slice-write-bytes-2 c = simp length-set (omega arith)
@@ -47,12 +32,12 @@ pub put-spec : {M : Type 1} → statement M
 put-spec =
     tie.close
     (tie.spec
-    headed-requires
-    targets-requires
-    width-requires
+    (λ c κs. search needs)
+    (λ c κs. search needs)
+    (λ c κs. search needs)
     cast-bytes
-    slice-write-bytes
-    cast-bytes-2
+    (λ c. search needs)
+    (λ c. search needs)
     slice-write-bytes-2
     put-rows-requires
     same-length

@@ -23,12 +23,6 @@ abbrev μ-loop : tie.MeasureT-loop
 loop-holds : tie.Need-loop-holds Inv-loop μ-loop
 loop-holds c = (omega arith, (refl, rw (add-zero, sub-zero)))
 
-cast-mirrored : tie.Need-cast-mirrored Inv-loop μ-loop
-cast-mirrored c = search needs
-
-mirrored-requires : tie.Need-mirrored-requires Inv-loop μ-loop
-mirrored-requires c κs = search needs
-
 add-bytes : tie.Need-add-bytes Inv-loop μ-loop
 add-bytes c = omega arith
 
@@ -62,8 +56,8 @@ put-row-spec =
     Inv-loop
     μ-loop
     loop-holds
-    cast-mirrored
-    mirrored-requires
+    (search needs)
+    (search needs)
     add-bytes
     slice-write-bytes
     add-k

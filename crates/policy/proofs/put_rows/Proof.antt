@@ -30,9 +30,6 @@ within c =
     let room : 2 + rows * a .args .wide ≤ length (now (a .args .bytes)) = rw (c .before .before .signers .ensures) (a .pre .1) in
     omega (arith, row-within rows (a .args .wide) (c .before .loop .s) (c .loop-test .taken))
 
-signers-requires : tie.Need-signers-requires Inv-loop μ-loop
-signers-requires c κs = search needs
-
 loop-holds : tie.Need-loop-holds Inv-loop μ-loop
 loop-holds c = let z : 2 + 0 * c .before .before .before .args .wide ≡ 2 = omega arith in (omega arith, (refl, rw z))
 
@@ -42,14 +39,8 @@ mul-put-row c = omega (arith, within (c .before))
 add-put-row : tie.Need-add-put-row Inv-loop μ-loop
 add-put-row c = omega (arith, within (c .before))
 
-row-requires : tie.Need-row-requires Inv-loop μ-loop
-row-requires c κs = search needs
-
 put-row-requires : tie.Need-put-row-requires Inv-loop μ-loop
 put-row-requires c κs = within (c .before .before)
-
-add-s : tie.Need-add-s Inv-loop μ-loop
-add-s c = search needs
 
 loop-less : tie.Need-loop-less Inv-loop μ-loop
 loop-less c = omega arith
@@ -81,13 +72,13 @@ put-rows-spec =
     (tie.spec
     Inv-loop
     μ-loop
-    signers-requires
+    (search needs)
     loop-holds
     mul-put-row
     add-put-row
-    row-requires
+    (search needs)
     put-row-requires
-    add-s
+    (search needs)
     loop-less
     loop-again
     same-length

@@ -5,9 +5,6 @@ use mathlib.Core.Path.{sym, _∙_}
 use Rattle.policy.proofs.read.Statement.{statement}
 use Rattle.policy.proofs.read.Tie as tie
 
-read-number-requires : tie.Need-read-number-requires
-read-number-requires c κs = search needs
-
 returns : tie.Need-returns
 returns c =
     let e = c .before .read-number .ensures in
@@ -22,4 +19,4 @@ returns-2 c =
     record { number = sym z; value = rw (eq-eqb _ _ z) (c .store .ensures) }
 
 pub read-spec : {M : Type 1} → statement M
-read-spec = tie.close (tie.spec read-number-requires returns store-requires returns-2)
+read-spec = tie.close (tie.spec (search needs) returns store-requires returns-2)

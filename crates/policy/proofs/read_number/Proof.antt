@@ -3,14 +3,14 @@ use borrow.Author.Needs.{needs}
 use borrow.Author.Tests.{lt-ltb, le-ltb, eq-eqb, ne-eqb, not-true, not-false}
 use native.Mathlib.Omega.{arith}
 use denote.Ref.{now}
-use mathlib.Core.Path.{_≡_}
-use mathlib.Core.Bool.{cond}
+use mathlib.Core.Path.{_≡_, sym, ap}
+use mathlib.Core.Bool.{Bool, cond}
 use lib.Dec.{ltb}
 use lib.ListN.{length, drop}
 use Rattle.bits.specs.Bit.{below}
 use Rattle.beliefs.specs.Lists.{all}
-use Rattle.beliefs.specs.Numbers.{tooFew, leftOver, bitSet}
-use Rattle.beliefs.specs.Policy.{width, rowsOf, readNumber}
+use Rattle.answers.specs.Numbers.{tooFew, leftOver, bitSet}
+use Rattle.beliefs.specs.Policy.{width, rowsOf, headSpare, readNumber}
 use Rattle.policy.proofs.read_number.Statement.{statement}
 use Rattle.policy.proofs.read_number.Tie as tie
 
@@ -29,7 +29,7 @@ past c =
     rw (
       le-ltb _ _ (at-header .before .if1 .left),
       ← at-header .header .ensures,
-      eq-eqb _ _ (c .before .before .before .if2 .left),
+      eq-eqb (headSpare (at-header .header .result)) 0 (c .before .before .before .if2 .left),
       ← c .before .before .head-signers .ensures,
       ← c .before .head-targets .ensures,
       ← c .size .ensures,
@@ -37,44 +37,35 @@ past c =
 
 -- and past the lengths
 sized : (c : tie.After-padding-clear)
-    → readNumber (now (c .before .before .before .before .before .before .before .before .before .before .before .args .bytes)) ≡ cond (c .padding-clear .result) 0 bitSet
+    → readNumber (now (c .before .before .before .before .before .before .before .before .before .before .before .args .bytes))
+    ≡ cond (c .padding-clear .result) 0 bitSet
 sized c =
     rw (
       past (c .before .before .before .before),
       le-ltb _ _ (c .before .before .before .if3 .left),
       le-ltb _ _ (c .before .before .if4 .left),
       ← c .before .width .ensures,
-      ← c .padding-clear .ensures,
     )
+    (ap (λ (clear : Bool). cond clear 0 bitSet) (sym (c .padding-clear .ensures)))
 
 returns : tie.Need-returns
 unfolding readNumber
 returns c = rw (lt-ltb _ _ (c .if1 .taken))
 
-header-requires : tie.Need-header-requires
-header-requires c κs = search needs
-
 returns-2 : tie.Need-returns-2
 unfolding readNumber
-returns-2 c = rw (le-ltb _ _ (c .before .before .if1 .left), ← c .before .header .ensures, ne-eqb _ _ (c .if2 .taken))
-
-head-signers-requires : tie.Need-head-signers-requires
-head-signers-requires c κs = search needs
-
-head-targets-requires : tie.Need-head-targets-requires
-head-targets-requires c κs = search needs
-
-size-requires : tie.Need-size-requires
-size-requires c κs = search needs
+returns-2 c =
+    rw (
+      le-ltb _ _ (c .before .before .if1 .left),
+      ← c .before .header .ensures,
+      ne-eqb (headSpare (c .before .header .result)) 0 (c .if2 .taken),
+    )
 
 returns-3 : tie.Need-returns-3
 returns-3 c = rw (past (c .before), lt-ltb _ _ (c .if3 .taken))
 
 returns-4 : tie.Need-returns-4
 returns-4 c = rw (past (c .before .before), le-ltb _ _ (c .before .if3 .left), lt-ltb _ _ (c .if4 .taken))
-
-width-requires : tie.Need-width-requires
-width-requires c κs = search needs
 
 padding-clear-requires : tie.Need-padding-clear-requires
 padding-clear-requires c κs = (rw (c .width .ensures) (omega arith), omega arith)
@@ -90,14 +81,14 @@ read-number-spec =
     tie.close
     (tie.spec
     returns
-    header-requires
+    (search needs)
     returns-2
-    head-signers-requires
-    head-targets-requires
-    size-requires
+    (search needs)
+    (search needs)
+    (search needs)
     returns-3
     returns-4
-    width-requires
+    (search needs)
     padding-clear-requires
     returns-5
     returns-6)

@@ -9,17 +9,5 @@ use Rattle.policy.proofs.row.Tie as tie
 returns : tie.Need-returns
 returns c = sym (List·getD-eq-default (c .before .before .args .policy .now) 0 (omega arith))
 
-add-result : tie.Need-add-result
-add-result c = search needs
-
-mul-result : tie.Need-mul-result
-mul-result c = search needs
-
-shared-slice-read-result : tie.Need-shared-slice-read-result
-shared-slice-read-result c = search needs
-
-returns-2 : tie.Need-returns-2
-returns-2 c = search needs
-
 pub row-spec : {M : Type 1} → statement M
-row-spec = tie.close (tie.spec returns add-result mul-result shared-slice-read-result returns-2)
+row-spec = tie.close (tie.spec returns (search needs) (search needs) (search needs) (search needs))

@@ -28,17 +28,8 @@ add-at c = omega (arith, within c)
 add-end : tie.Need-add-end
 add-end c = omega (arith, within c)
 
-sub-row-of : tie.Need-sub-row-of
-sub-row-of c = search needs
-
-part-row-of-start : tie.Need-part-row-of-start
-part-row-of-start c = search needs
-
 part-row-of-end : tie.Need-part-row-of-end
 part-row-of-end c = omega (arith, within c)
-
-row-of-requires : tie.Need-row-of-requires
-row-of-requires c κs = search needs
 
 returns-2 : tie.Need-returns-2
 returns-2 c =
@@ -54,8 +45,8 @@ row-in-spec =
     mul-at
     add-at
     add-end
-    sub-row-of
-    part-row-of-start
+    (search needs)
+    (search needs)
     part-row-of-end
-    row-of-requires
+    (search needs)
     returns-2)

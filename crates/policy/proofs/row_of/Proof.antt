@@ -27,20 +27,11 @@ loop-holds : tie.Need-loop-holds Inv-loop μ-loop
 unfolding rowOf
 loop-holds c = (omega arith, rw (drop-length (now (c .before .args .bytes))))
 
-sub-k : tie.Need-sub-k Inv-loop μ-loop
-sub-k c = search needs
-
 mul-w : tie.Need-mul-w Inv-loop μ-loop
 mul-w c = omega (arith, turn c)
 
 shared-slice-read-mirrored : tie.Need-shared-slice-read-mirrored Inv-loop μ-loop
 shared-slice-read-mirrored c = omega arith
-
-mirrored-requires : tie.Need-mirrored-requires Inv-loop μ-loop
-mirrored-requires c κs = search needs
-
-cast-w : tie.Need-cast-w Inv-loop μ-loop
-cast-w c = search needs
 
 add-w : tie.Need-add-w Inv-loop μ-loop
 add-w c = omega (arith, turn (c .before .before), c .mirrored .ensures)
@@ -61,11 +52,11 @@ row-of-spec =
     Inv-loop
     μ-loop
     loop-holds
-    sub-k
+    (search needs)
     mul-w
     shared-slice-read-mirrored
-    mirrored-requires
-    cast-w
+    (search needs)
+    (search needs)
     add-w
     loop-less
     loop-again

@@ -16,29 +16,12 @@ past : (c : tie.After-fits2) → let p = c .before .before .before .before .args
     each (rowFits p) 32 ≡ (c .fits2 .result && each (λ i. below (row p (signers p + i)) 0) (32 - signers p))
 past c =
     let a = c .before .before .before .before .args in
-    rows-parted (a .policy .now) (c .before .before .rows-together .result) (c .before .before .before .before .pre) (rw (← c .before .before .before .signers .ensures) (c .before .before .rows-together .ensures))
+    rows-parted (a .policy .now) (c .before .before .rows-together .result) (c .before .before .before .before .pre)
+    (rw (← c .before .before .before .signers .ensures) (c .before .before .rows-together .ensures))
     ∙ rw (← c .before .targets .ensures, c .fits2 .ensures)
-
-signers-requires : tie.Need-signers-requires
-signers-requires c κs = search needs
-
-rows-together-requires : tie.Need-rows-together-requires
-rows-together-requires c κs = search needs
-
-targets-requires : tie.Need-targets-requires
-targets-requires c κs = search needs
-
-fits-requires : tie.Need-fits-requires
-fits-requires c κs = search needs
 
 returns : tie.Need-returns
 returns c = rw (past (c .before), not-true (c .before .fits2 .result) (c .if1 .taken))
-
-signers-requires-2 : tie.Need-signers-requires-2
-signers-requires-2 c κs = search needs
-
-rows-together-requires-2 : tie.Need-rows-together-requires-2
-rows-together-requires-2 c κs = search needs
 
 returns-2 : tie.Need-returns-2
 returns-2 c =
@@ -49,11 +32,11 @@ pub rows-fit-spec : {M : Type 1} → statement M
 rows-fit-spec =
     tie.close
     (tie.spec
-    signers-requires
-    rows-together-requires
-    targets-requires
-    fits-requires
+    (search needs)
+    (search needs)
+    (search needs)
+    (search needs)
     returns
-    signers-requires-2
-    rows-together-requires-2
+    (search needs)
+    (search needs)
     returns-2)

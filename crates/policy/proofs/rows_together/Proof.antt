@@ -17,15 +17,6 @@ abbrev μ-loop : tie.MeasureT-loop
 loop-holds : tie.Need-loop-holds Inv-loop μ-loop
 loop-holds c = (none-together _ _, omega arith)
 
-row-requires : tie.Need-row-requires Inv-loop μ-loop
-row-requires c κs = search needs
-
-add-s : tie.Need-add-s Inv-loop μ-loop
-add-s c = search needs
-
-loop-less : tie.Need-loop-less Inv-loop μ-loop
-loop-less c = search needs
-
 loop-again : tie.Need-loop-again Inv-loop μ-loop
 loop-again c = (rw (c .row .ensures) (one-together _ _ _ _ (c .before .before .loop .inv .1 .0) (c .before .before .loop .inv .0)), omega arith)
 
@@ -36,4 +27,4 @@ returns c =
 
 pub rows-together-spec : {M : Type 1} → statement M
 rows-together-spec =
-    tie.close (tie.spec Inv-loop μ-loop loop-holds row-requires add-s loop-less loop-again returns)
+    tie.close (tie.spec Inv-loop μ-loop loop-holds (search needs) (search needs) (search needs) loop-again returns)

@@ -9,9 +9,6 @@ use Rattle.policy.proofs.size.Tie as tie
 most : (c : tie.After-width) → c .before .args .s * c .width .result ≤ 32 * 8
 most c = let l : c .width .result ≤ 8 = omega arith in mul-le-mul (c .before .pre .0) l
 
-width-requires : tie.Need-width-requires
-width-requires c κs = search needs
-
 mul-result : tie.Need-mul-result
 mul-result c = omega (arith, most c)
 
@@ -22,4 +19,4 @@ returns : tie.Need-returns
 returns c = rw (c .width .ensures)
 
 pub size-spec : {M : Type 1} → statement M
-size-spec = tie.close (tie.spec width-requires mul-result add-result returns)
+size-spec = tie.close (tie.spec (search needs) mul-result add-result returns)

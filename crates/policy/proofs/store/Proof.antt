@@ -33,24 +33,6 @@ rows-are c =
 header-requires : tie.Need-header-requires Inv-loop μ-loop
 header-requires c κs = accepted _ (c .before .before .before .pre) .headed
 
-head-signers-requires : tie.Need-head-signers-requires Inv-loop μ-loop
-head-signers-requires c κs = search needs
-
-head-targets-requires : tie.Need-head-targets-requires Inv-loop μ-loop
-head-targets-requires c κs = search needs
-
-width-requires : tie.Need-width-requires Inv-loop μ-loop
-width-requires c κs = search needs
-
-element-write-policy : tie.Need-element-write-policy Inv-loop μ-loop
-element-write-policy c = search needs
-
-element-write-policy-2 : tie.Need-element-write-policy-2 Inv-loop μ-loop
-element-write-policy-2 c = search needs
-
-element-write-policy-3 : tie.Need-element-write-policy-3 Inv-loop μ-loop
-element-write-policy-3 c = search needs
-
 loop-holds : tie.Need-loop-holds Inv-loop μ-loop
 loop-holds c = (omega arith, refl)
 
@@ -66,21 +48,6 @@ row-in-requires c κs =
       ) (omega arith),
       omega arith,
     )
-
-add-policy : tie.Need-add-policy Inv-loop μ-loop
-add-policy c = search needs
-
-mul-policy : tie.Need-mul-policy Inv-loop μ-loop
-mul-policy c = search needs
-
-element-write-policy-4 : tie.Need-element-write-policy-4 Inv-loop μ-loop
-element-write-policy-4 c = search needs
-
-add-s : tie.Need-add-s Inv-loop μ-loop
-add-s c = search needs
-
-loop-less : tie.Need-loop-less Inv-loop μ-loop
-loop-less c = search needs
 
 loop-again : tie.Need-loop-again Inv-loop μ-loop
 loop-again c =
@@ -109,18 +76,18 @@ store-spec =
     Inv-loop
     μ-loop
     header-requires
-    head-signers-requires
-    head-targets-requires
-    width-requires
-    element-write-policy
-    element-write-policy-2
-    element-write-policy-3
+    (search needs)
+    (search needs)
+    (search needs)
+    (search needs)
+    (search needs)
+    (search needs)
     loop-holds
     row-in-requires
-    add-policy
-    mul-policy
-    element-write-policy-4
-    add-s
-    loop-less
+    (search needs)
+    (search needs)
+    (search needs)
+    (search needs)
+    (search needs)
     loop-again
     returns)

@@ -30,27 +30,12 @@ past-targets c =
       ← c .in-range2 .ensures,
     )
 
-element-copy-out-if1 : tie.Need-element-copy-out-if1
-element-copy-out-if1 c = search needs
-
 returns : tie.Need-returns
 unfolding valid
 returns c = rw (lt-leb _ _ (c .if1 .taken))
 
-signers-requires : tie.Need-signers-requires
-signers-requires c κs = search needs
-
-in-range-requires : tie.Need-in-range-requires
-in-range-requires c κs = search needs
-
 returns-2 : tie.Need-returns-2
 returns-2 c = rw (past-signers (c .before), not-true (c .before .in-range .result) (c .if2 .taken))
-
-targets-requires : tie.Need-targets-requires
-targets-requires c κs = search needs
-
-in-range-requires-2 : tie.Need-in-range-requires-2
-in-range-requires-2 c κs = search needs
 
 returns-3 : tie.Need-returns-3
 returns-3 c = rw (past-targets (c .before), not-true (c .before .in-range2 .result) (c .if3 .taken))
@@ -58,7 +43,8 @@ returns-3 c = rw (past-targets (c .before), not-true (c .before .in-range2 .resu
 rows-fit-requires : tie.Need-rows-fit-requires
 rows-fit-requires c κs =
     let s = c .before .before .before .before .before .signers in
-    let few : s .result ≤ 32 = in-within (s .result) 32 (sym (c .before .before .before .before .in-range .ensures) ∙ not-false _ (c .before .before .before .if2 .left)) .1 in
+    let few : s .result ≤ 32 = in-within (s .result) 32
+    (sym (c .before .before .before .before .in-range .ensures) ∙ not-false _ (c .before .before .before .if2 .left)) .1 in
     rw (s .ensures) at few
 
 returns-4 : tie.Need-returns-4
@@ -69,13 +55,13 @@ pub valid-spec : {M : Type 1} → statement M
 valid-spec =
     tie.close
     (tie.spec
-    element-copy-out-if1
+    (search needs)
     returns
-    signers-requires
-    in-range-requires
+    (search needs)
+    (search needs)
     returns-2
-    targets-requires
-    in-range-requires-2
+    (search needs)
+    (search needs)
     returns-3
     rows-fit-requires
     returns-4)

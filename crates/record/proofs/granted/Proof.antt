@@ -9,13 +9,15 @@ use native.Mathlib.Omega.{arith}
 use Rattle.bits.specs.Bit.{bit}
 use Rattle.beliefs.specs.Policy.{permits}
 use Rattle.beliefs.proofs.Lists.{each-none, each-more}
-use Rattle.record.specs.Record.{depth, signerAt, held, newestPermitted}
+use Rattle.record.specs.Layout.{depth, signerAt, held}
+use Rattle.record.specs.Does.{newestPermitted}
 use Rattle.record.proofs.Tried.{tried-barred, tried-found, tried-none}
 use Rattle.record.proofs.granted.Statement.{statement}
 use Rattle.record.proofs.granted.Tie as tie
 
 abbrev Inv-loop : tie.InvT-loop
-Inv-loop policy state target asked d lengths k₀ k = (k ≤ d) × ((newestPermitted policy target state k ≡ true) × ((i : ℕ) → i < k → bit (held state target) i ≡ false))
+Inv-loop policy state target asked d lengths k₀ k =
+    (k ≤ d) × ((newestPermitted policy target state k ≡ true) × ((i : ℕ) → i < k → bit (held state target) i ≡ false))
 
 abbrev μ-loop : tie.MeasureT-loop
 μ-loop policy state target asked d lengths k₀ k = d - k
@@ -40,41 +42,13 @@ is-held c =
     let at-held = c .before .before .before .before .before .before .before in
     rw (← at-held .held .ensures) (c .has .ensures)
 
-with-requires : tie.Need-with-requires Inv-loop μ-loop
-with-requires c κs = search needs
-
-depth-requires : tie.Need-depth-requires Inv-loop μ-loop
-depth-requires c κs = search needs
-
-held-requires : tie.Need-held-requires Inv-loop μ-loop
-held-requires c κs = search needs
-
 loop-holds : tie.Need-loop-holds Inv-loop μ-loop
 loop-holds c = (omega arith, (each-none _, λ i l. absurd (omega arith)))
 
-sub-signer : tie.Need-sub-signer Inv-loop μ-loop
-sub-signer c = search needs
-
-sub-signer-2 : tie.Need-sub-signer-2 Inv-loop μ-loop
-sub-signer-2 c = search needs
-
-signer-requires : tie.Need-signer-requires Inv-loop μ-loop
-signer-requires c κs = search needs
-
-row-requires : tie.Need-row-requires Inv-loop μ-loop
-row-requires c κs = search needs
-
-meet-requires : tie.Need-meet-requires Inv-loop μ-loop
-meet-requires c κs = search needs
-
 returns : tie.Need-returns Inv-loop μ-loop
-returns c = sym (tried-barred _ _ _ _ (c .before .before .before .before .before .loop .inv .1 .1) (sym (is-permitted (c .before)) ∙ not-true _ (c .if1 .taken)))
-
-cast-has : tie.Need-cast-has Inv-loop μ-loop
-cast-has c = search needs
-
-has-requires : tie.Need-has-requires Inv-loop μ-loop
-has-requires c κs = search needs
+returns c =
+    let turn = c .before .before .before .before .before in
+    sym (tried-barred _ _ _ _ (turn .loop .inv .1 .1) (sym (is-permitted (c .before)) ∙ not-true _ (c .if1 .taken)))
 
 returns-2 : tie.Need-returns-2 Inv-loop μ-loop
 returns-2 c =
@@ -85,12 +59,6 @@ returns-2 c =
     (turn .loop .inv .1 .0)
     (sym (is-permitted (c .before .before .before)) ∙ not-false _ (c .before .before .if1 .left))
     (sym (is-held (c .before)) ∙ c .if2 .taken))
-
-add-k : tie.Need-add-k Inv-loop μ-loop
-add-k c = search needs
-
-loop-less : tie.Need-loop-less Inv-loop μ-loop
-loop-less c = search needs
 
 loop-again : tie.Need-loop-again Inv-loop μ-loop
 loop-again c =
@@ -108,23 +76,5 @@ returns-3 c = sym (tried-none _ _ _ (λ i l. c .before .loop .inv .1 .1 i (omega
 pub granted-spec : {M : Type 1} → statement M
 granted-spec =
     tie.close
-    (tie.spec
-    Inv-loop
-    μ-loop
-    with-requires
-    depth-requires
-    held-requires
-    loop-holds
-    sub-signer
-    sub-signer-2
-    signer-requires
-    row-requires
-    meet-requires
-    returns
-    cast-has
-    has-requires
-    returns-2
-    add-k
-    loop-less
-    loop-again
-    returns-3)
+    (tie.spec Inv-loop μ-loop (search needs) (search needs) (search needs) loop-holds (search needs) (search needs) (search needs) (search needs) (search needs)
+    returns (search needs) (search needs) returns-2 (search needs) (search needs) loop-again returns-3)

@@ -1,76 +1,40 @@
--- The index is the definition's; no frame, and a target over 63, leave the words as they are.
+-- Without a frame nothing is done. The index is the definition's; a target over 63 leaves the words as they are.
 use borrow.Author.Needs.{needs}
 use borrow.Author.Tests.{lt-ltb, le-ltb, eq-eqb, ne-eqb}
-use mathlib.Core.Path.{refl}
-use Rattle.record.specs.Record.{holdIn}
-use Rattle.beliefs.proofs.Engine.{gives}
+use mathlib.Core.Path.{_≡_, refl, ap, _∙_}
+use Rattle.answers.proofs.Given.{gives}
+use Rattle.words.specs.Words.{framed}
+use Rattle.record.specs.Layout.{depth}
 use Rattle.record.proofs.hold.Statement.{statement}
 use Rattle.record.proofs.hold.Tie as tie
 
-depth-requires : tie.Need-depth-requires
-depth-requires c κs = search needs
-
-refused-requires : tie.Need-refused-requires
-refused-requires c κs = search needs
+tested : (c : tie.After-framed) → c .framed .result ≡ framed (depth (c .before .before .before .args .state .now))
+tested c = c .framed .ensures ∙ ap framed (c .before .depth .ensures)
 
 returns : tie.Need-returns
-unfolding holdIn
-returns c = rw (← c .before .before .depth .ensures, eq-eqb _ _ (c .before .if1 .taken)) (gives (c .refused .ensures) refl)
-
-done-requires : tie.Need-done-requires
-done-requires c κs = search needs
+returns c = rw (← tested (c .before .before), ne-eqb _ _ (c .before .if1 .taken)) (gives (c .refused .ensures) refl)
 
 returns-2 : tie.Need-returns-2
-unfolding holdIn
-returns-2 c = rw (← c .before .before .before .depth .ensures, ne-eqb _ _ (c .before .before .if1 .left), le-ltb _ 64 (c .before .if2 .taken)) (gives (c .done .ensures) refl)
-
-newest-requires : tie.Need-newest-requires
-newest-requires c κs = search needs
-
-mul-first : tie.Need-mul-first
-mul-first c = search needs
-
-add-first : tie.Need-add-first
-add-first c = search needs
-
-add-state : tie.Need-add-state
-add-state c = search needs
-
-mul-state : tie.Need-mul-state
-mul-state c = search needs
-
-element-write-state : tie.Need-element-write-state
-element-write-state c = search needs
-
-done-requires-2 : tie.Need-done-requires-2
-done-requires-2 c κs = search needs
+returns-2 c =
+    let past-if1 = c .before .before in
+    rw (← tested (past-if1 .before), eq-eqb _ _ (past-if1 .if1 .left), le-ltb _ 64 (c .before .if2 .taken)) (gives (c .done .ensures) refl)
 
 returns-3 : tie.Need-returns-3
-unfolding holdIn
 returns-3 c =
-    let past-if1 = c .before .before .before .before in
+    let at-newest = c .before .before in
+    let past-if2 = at-newest .before .before in
+    let past-if1 = past-if2 .before in
     rw (
-      ← c .before .newest .ensures,
-      ← past-if1 .before .depth .ensures,
-      ne-eqb _ _ (past-if1 .if1 .left),
-      lt-ltb _ 64 (c .before .before .before .if2 .left),
+      ← tested (past-if1 .before),
+      eq-eqb _ _ (past-if1 .if1 .left),
+      lt-ltb _ 64 (past-if2 .if2 .left),
+      ← at-newest .newest .ensures,
+      ← c .before .words-from .ensures,
     )
     (gives (c .done2 .ensures) refl)
 
 pub hold-spec : {M : Type 1} → statement M
 hold-spec =
     tie.close
-    (tie.spec
-    depth-requires
-    refused-requires
-    returns
-    done-requires
-    returns-2
-    newest-requires
-    mul-first
-    add-first
-    add-state
-    mul-state
-    element-write-state
-    done-requires-2
-    returns-3)
+    (tie.spec (search needs) (search needs) (search needs) returns (search needs) returns-2 (search needs) (search needs) (search needs) (search needs)
+    (search needs) (search needs) returns-3)

@@ -1,54 +1,37 @@
--- The frame's words are cleared, and then the depth is one less.
+-- Without a frame nothing is done; else the newest frame's words are cleared, and then the depth is one less.
 use borrow.Author.Needs.{needs}
 use borrow.Author.Tests.{eq-eqb, ne-eqb}
-use mathlib.Core.Path.{refl, ap₂, _∙_}
+use mathlib.Core.Path.{_≡_, refl, sym, ap, ap₂, _∙_}
+use mathlib.Core.Logic.{_≢_}
 use mathlib.Core.List.{List}
 use Prim.Native.Nat.{ℕ, _-_}
+use native.Mathlib.Omega.{arith}
 use lib.ListN.{set}
-use Rattle.record.specs.Record.{depth, returnIn}
-use Rattle.beliefs.proofs.Engine.{gives}
+use Rattle.answers.proofs.Given.{gives}
+use Rattle.words.specs.Words.{framed}
+use Rattle.words.proofs.Words.{some-frame}
+use Rattle.record.specs.Layout.{depth}
 use Rattle.record.proofs.leave.Statement.{statement}
 use Rattle.record.proofs.leave.Tie as tie
 
-depth-requires : tie.Need-depth-requires
-depth-requires c κs = search needs
+tested : (c : tie.After-framed) → c .framed .result ≡ framed (depth (c .before .before .before .args .state .now))
+tested c = c .framed .ensures ∙ ap framed (c .before .depth .ensures)
 
-refused-requires : tie.Need-refused-requires
-refused-requires c κs = search needs
+there : (c : tie.Else1) → c .before .before .depth .result ≢ 0
+there c = some-frame _ (sym (c .before .framed .ensures) ∙ c .if1 .left)
 
 returns : tie.Need-returns
-unfolding returnIn
-returns c = rw (← c .before .before .depth .ensures, eq-eqb _ _ (c .before .if1 .taken)) (gives (c .refused .ensures) refl)
-
-clear-requires : tie.Need-clear-requires
-clear-requires c κs = search needs
+returns c = rw (← tested (c .before .before), ne-eqb _ _ (c .before .if1 .taken)) (gives (c .refused .ensures) refl)
 
 sub-state : tie.Need-sub-state
-sub-state c = search needs
-
-element-write-state : tie.Need-element-write-state
-element-write-state c = search needs
-
-done-requires : tie.Need-done-requires
-done-requires c κs = search needs
+sub-state c = let some = there (c .before .before) in omega arith
 
 returns-2 : tie.Need-returns-2
-unfolding returnIn
 returns-2 c =
-    let at-depth = c .before .before .before .before in
-    let entry = at-depth .before .before in
-    rw (ne-eqb (depth (entry .args .state .now)) 0 (λ e. c .before .before .before .if1 .left (at-depth .depth .ensures ∙ e)))
-    (gives (c .done .ensures) (ap₂ (λ (l : List ℕ) (d : ℕ). set l 0 (d - 1)) (c .before .clear .ensures) (at-depth .depth .ensures)))
+    let past-if1 = c .before .before .before in
+    rw (← tested (past-if1 .before), eq-eqb _ _ (past-if1 .if1 .left))
+    (gives (c .done .ensures) (ap₂ (λ (l : List ℕ) (d : ℕ). set l 0 (d - 1)) (c .before .clear .ensures) (past-if1 .before .before .depth .ensures)))
 
 pub leave-spec : {M : Type 1} → statement M
 leave-spec =
-    tie.close
-    (tie.spec
-    depth-requires
-    refused-requires
-    returns
-    clear-requires
-    sub-state
-    element-write-state
-    done-requires
-    returns-2)
+    tie.close (tie.spec (search needs) (search needs) (search needs) returns (search needs) sub-state (search needs) (search needs) returns-2)

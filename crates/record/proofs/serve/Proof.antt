@@ -1,112 +1,50 @@
--- Each operation is one call, which gives what the definition over the words says; that serves the belief sets.
+-- Each callee gives exactly what its operation comes to, and that serves the belief sets (Kept).
 use borrow.Author.Needs.{needs}
-use Rattle.record.proofs.Served.{promised}
+use mathlib.Core.List.{List}
+use Prim.Native.Nat.{ℕ}
+use Rattle.answers.specs.declared.Answer.{Answer}
+use Rattle.answers.specs.Answer.{Gives}
+use Rattle.words.specs.Words.{barred}
+use Rattle.beliefs.specs.Engine.{acts, Serve}
+use Rattle.record.specs.Pictures.{byRecord}
+use Rattle.record.proofs.Kept.{served}
 use Rattle.record.proofs.serve.Statement.{statement}
 use Rattle.record.proofs.serve.Tie as tie
 
-enum-known-op : tie.Need-enum-known-op
-enum-known-op c = search needs
-
-call-requires : tie.Need-call-requires
-call-requires c κs = search needs
-
-enum-told : tie.Need-enum-told
-enum-told c = search needs
-
-leave-requires : tie.Need-leave-requires
-leave-requires c κs = search needs
-
-enum-known-op-2 : tie.Need-enum-known-op-2
-enum-known-op-2 c = search needs
-
-held-requires : tie.Need-held-requires
-held-requires c κs = search needs
-
-with-requires : tie.Need-with-requires
-with-requires c κs = search needs
-
-hold-requires : tie.Need-hold-requires
-hold-requires c κs = search needs
-
-enum-known-op-3 : tie.Need-enum-known-op-3
-enum-known-op-3 c = search needs
-
-hold-requires-2 : tie.Need-hold-requires-2
-hold-requires-2 c κs = search needs
-
-enum-known-op-4 : tie.Need-enum-known-op-4
-enum-known-op-4 c = search needs
-
-held-requires-2 : tie.Need-held-requires-2
-held-requires-2 c κs = search needs
-
-without-requires : tie.Need-without-requires
-without-requires c κs = search needs
-
-hold-requires-3 : tie.Need-hold-requires-3
-hold-requires-3 c κs = search needs
-
-enum-known-op-5 : tie.Need-enum-known-op-5
-enum-known-op-5 c = search needs
-
-check-requires : tie.Need-check-requires
-check-requires c κs = search needs
+out : (c : tie.After-whole2) (r : Answer) (left : List ℕ)
+    → let a = c .before .before .args in
+    Gives r left (acts byRecord (a .policy .now) (a .op) (a .state .now)) → Serve byRecord (a .policy .now) (a .state .now) (a .op) r left
+out c r left g = served _ _ (search needs) _ r left g
 
 returns : tie.Need-returns
-returns c =
-    let entry = c .before .before .before .before .before .before .before in
-    promised (entry .args .policy .now) (entry .args .state .now) (search needs) _ _ _ (rw (c .before .before .before .op .given .1) (c .call .ensures))
+returns c = out (c .before .before .before .before .before) _ _ (rw (c .before .before .before .op .given .1) (c .call .ensures))
 
 returns-2 : tie.Need-returns-2
-returns-2 c =
-    let entry = c .before .before .before .before .before .before in
-    promised (entry .args .policy .now) (entry .args .state .now) (search needs) _ _ _ (rw (c .before .before .enum-told .given .1) (c .leave .ensures))
+unfolding barred
+returns-2 c = out (c .before .before .before .before) _ _ (rw (c .before .before .enum-told .given .1) (c .leave .ensures))
 
 returns-3 : tie.Need-returns-3
+unfolding barred
 returns-3 c =
-    let at-op2 = c .before .before .before .before .before .before in
-    let entry = at-op2 .before .before .before .before in
-    promised (entry .args .policy .now) (entry .args .state .now) (search needs) _ _ _ (rw (at-op2 .op2 .given .1, ← c .before .before .held .ensures, ← c .before .with .ensures) (c .hold .ensures))
+    let at-op = c .before .before .before .before .before .before in
+    out (at-op .before .before) _ _ (rw (at-op .op2 .given .1) (rw (c .before .with .ensures, c .before .before .held .ensures) at (c .hold .ensures)))
 
 returns-4 : tie.Need-returns-4
-returns-4 c =
-    let entry = c .before .before .before .before .before .before .before in
-    promised (entry .args .policy .now) (entry .args .state .now) (search needs) _ _ _ (rw (c .before .before .before .op3 .given .1) (c .hold2 .ensures))
+unfolding barred
+returns-4 c = out (c .before .before .before .before .before) _ _ (rw (c .before .before .before .op3 .given .1) (c .hold2 .ensures))
 
 returns-5 : tie.Need-returns-5
+unfolding barred
 returns-5 c =
-    let at-op4 = c .before .before .before .before .before .before in
-    let entry = at-op4 .before .before .before .before in
-    promised (entry .args .policy .now) (entry .args .state .now) (search needs) _ _ _ (rw (at-op4 .op4 .given .1, ← c .before .before .held2 .ensures, ← c .before .without .ensures) (c .hold3 .ensures))
+    let at-op = c .before .before .before .before .before .before in
+    out (at-op .before .before) _ _ (rw (at-op .op4 .given .1) (rw (c .before .without .ensures, c .before .before .held2 .ensures) at (c .hold3 .ensures)))
 
 returns-6 : tie.Need-returns-6
-returns-6 c =
-    let entry = c .before .before .before .before .before .before .before in
-    promised (entry .args .policy .now) (entry .args .state .now) (search needs) _ _ _ (rw (c .before .before .before .op5 .given .1) (c .check .ensures))
+returns-6 c = out (c .before .before .before .before .before) _ _ (rw (c .before .before .before .op5 .given .1) (c .ask .ensures))
 
 pub serve-spec : {M : Type 1} → statement M
 serve-spec =
     tie.close
-    (tie.spec
-    enum-known-op
-    call-requires
-    enum-told
-    leave-requires
-    enum-known-op-2
-    held-requires
-    with-requires
-    hold-requires
-    enum-known-op-3
-    hold-requires-2
-    enum-known-op-4
-    held-requires-2
-    without-requires
-    hold-requires-3
-    enum-known-op-5
-    check-requires
-    returns
-    returns-2
-    returns-3
-    returns-4
-    returns-5
+    (tie.spec (search needs) (search needs) (search needs) (search needs) (search needs) (search needs) (search needs) (search needs) (search needs)
+    (search needs) (search needs) (search needs) (search needs) (search needs) (search needs) (search needs) returns returns-2 returns-3 returns-4 returns-5
     returns-6)

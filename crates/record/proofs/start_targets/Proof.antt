@@ -3,12 +3,6 @@ use borrow.Author.Needs.{needs}
 use Rattle.record.proofs.start_targets.Statement.{statement}
 use Rattle.record.proofs.start_targets.Tie as tie
 
-is-full-requires : tie.Need-is-full-requires
-is-full-requires c κs = search needs
-
-targets-requires : tie.Need-targets-requires
-targets-requires c κs = search needs
-
 returns : tie.Need-returns
 returns c = rw (← c .before .before .is-full .ensures, c .before .if1 .taken) (c .targets .ensures)
 
@@ -16,4 +10,4 @@ returns-2 : tie.Need-returns-2
 returns-2 c = rw (← c .before .is-full .ensures, c .if1 .left)
 
 pub start-targets-spec : {M : Type 1} → statement M
-start-targets-spec = tie.close (tie.spec is-full-requires targets-requires returns returns-2)
+start-targets-spec = tie.close (tie.spec (search needs) (search needs) returns returns-2)

@@ -12,7 +12,7 @@ use borrow.Fn.PlainCycle.{Measures, is, falls, and}
 use Rattle.runner.proofs.frame_run.Reads as frame-run
 use Rattle.runner.proofs.frame_run.Kinds as frame-run-kinds
 use Rattle.runner.proofs.+frame_run.Lts-frame_run as frame-run-lts
-use Rattle.beliefs.proofs.number.Reads as number-reads
+use Rattle.words.proofs.number.Reads as number-reads
 use Rattle.passed.proofs.serve.Reads as serve-reads
 use Rattle.runner.proofs.decode_at.Reads as decode-at-reads
 use Rattle.beliefs.specs.Policy.{valid}
@@ -33,19 +33,31 @@ frame-run-below t =
     and 3 frame-run-kinds.ps (falls 3 frame-run-kinds.ps _<_ μ-frame-run t) frame-run.Pre
 
 abbrev claims : ℕ → frame-run-lts.Claims
-claims t = (decode-at-reads.Asked, decode-at-reads.Learnt, number-reads.Asked, number-reads.Learnt, serve-reads.Asked, serve-reads.Learnt, frame-run-below t, frame-run.Post)
+claims t = (
+  decode-at-reads.Asked,
+  decode-at-reads.Learnt,
+  number-reads.Asked,
+  number-reads.Learnt,
+  serve-reads.Asked,
+  serve-reads.Learnt,
+  frame-run-below t,
+  frame-run.Post,
+)
 
 abbrev Inv-loop : frame-run-lts.InvT-loop
-Inv-loop policy trace answers₀ from words state₀ i₀ answers state i = (length answers ≡ length answers₀) × Onward policy trace answers₀ state₀ from i state answers
+Inv-loop policy trace answers₀ from words state₀ i₀ answers state i =
+    (length answers ≡ length answers₀) × Onward policy trace answers₀ state₀ from i state answers
 
 abbrev μ-loop : frame-run-lts.MeasureT-loop
 μ-loop policy trace answers₀ from words state₀ i₀ answers state i = words - i
 
 -- what the first tests left
-ready : (t : ℕ) (c : frame-run-lts.Start (claims t) (frame-run-at t) frame-run.Post Inv-loop μ-loop) → (valid (c .args .policy .now) ≡ true) × (length (c .args .trace .now) % 2 ≡ 0) × (length (c .args .trace .now) / 2 ≤ length (c .args .answers .now))
+ready : (t : ℕ) (c : frame-run-lts.Start (claims t) (frame-run-at t) frame-run.Post Inv-loop μ-loop)
+    → (valid (c .args .policy .now) ≡ true) × (length (c .args .trace .now) % 2 ≡ 0) × (length (c .args .trace .now) / 2 ≤ length (c .args .answers .now))
 ready t c = not-barred true (c .args .policy .now) (c .args .trace .now) (c .args .answers .now) (c .pre .1)
 
-more : (t : ℕ) (c : frame-run-lts.After-decode-at (claims t) (frame-run-at t) frame-run.Post Inv-loop μ-loop) → 2 * c .before .before .loop .i + 1 < length (c .before .before .before .before .before .args .trace .now)
+more : (t : ℕ) (c : frame-run-lts.After-decode-at (claims t) (frame-run-at t) frame-run.Post Inv-loop μ-loop)
+    → 2 * c .before .before .loop .i + 1 < length (c .before .before .before .before .before .args .trace .now)
 more t c = omega arith
 
 word : (t : ℕ) (c : frame-run-lts.After-decoded (claims t) (frame-run-at t) frame-run.Post Inv-loop μ-loop)
@@ -53,7 +65,11 @@ word : (t : ℕ) (c : frame-run-lts.After-decoded (claims t) (frame-run-at t) fr
     Reads (turn .before .before .before .args .policy .now) (turn .before .before .before .args .trace .now) (turn .loop .i) (c .decoded .given .0 .0)
 word t c =
     let read = c .before .before in
-    record { more = more t read; word = sym (c .decoded .given .1) ∙ read .decode-at .ensures; policy = ready t (read .before .before .before .before .before) .0 }
+    record {
+      more = more t read;
+      word = sym (c .decoded .given .1) ∙ read .decode-at .ensures;
+      policy = ready t (read .before .before .before .before .before) .0;
+    }
 
 loop-holds : (t : ℕ) → frame-run-lts.Need-loop-holds (claims t) (frame-run-at t) frame-run.Post Inv-loop μ-loop
 loop-holds t c = (refl, onward _ _ _ _ _)
@@ -136,7 +152,8 @@ frame-run-requires t c κs =
 same-length-4 : (t : ℕ) → frame-run-lts.Need-same-length-4 (claims t) (frame-run-at t) frame-run.Post Inv-loop μ-loop
 same-length-4 t c =
     let called = c .before .before .before .before in
-    called .frame-run .kept .1 .1 .0 ∙ simp length-set (called .before .before .before .before .before .before .before .before .before .before .before .loop .inv .0)
+    called .frame-run .kept .1 .1 .0 ∙ simp length-set
+    (called .before .before .before .before .before .before .before .before .before .before .before .loop .inv .0)
 
 returns-4 : (t : ℕ) → frame-run-lts.Need-returns-4 (claims t) (frame-run-at t) frame-run.Post Inv-loop μ-loop
 returns-4 t c =
@@ -144,28 +161,34 @@ returns-4 t c =
     let down = called .before .before .before in
     let served = down .before .before in
     let decoded = served .before .before in
-    leaves-down (decoded .before .before .before .before .loop .inv .1) (word t decoded) (served .serve .ensures) _ (down .next2 .given .1) _ _ _ _ (not-true _ (c .if1 .taken)) (called .frame-run .ensures)
+    leaves-down (decoded .before .before .before .before .loop .inv .1) (word t decoded) (served .serve .ensures) _ (down .next2 .given .1) _ _ _ _
+    (not-true _ (c .if1 .taken)) (called .frame-run .ensures)
 
 -- a callee that has come back
 back : (t : ℕ) (c : frame-run-lts.Else1 (claims t) (frame-run-at t) frame-run.Post Inv-loop μ-loop)
     → let called = c .before .before .before .before in
     let turn = called .before .before .before .before .before .before .before .before .before .before .before in
     let a = turn .before .before .before .args in
-    (turn .loop .i < called .frame-run .result .at) × Onward (a .policy .now) (a .trace .now) (a .answers .now) (a .passed) (a .from) (called .frame-run .result .at) (turn .loop .state) (called .frame-run .last .1 .1 .0)
+    (turn .loop .i < called .frame-run .result .at) × Onward (a .policy .now) (a .trace .now) (a .answers .now) (a .passed) (a .from)
+    (called .frame-run .result .at) (turn .loop .state) (called .frame-run .last .1 .1 .0)
 back t c =
     let called = c .before .before .before .before in
     let down = called .before .before .before in
     let served = down .before .before in
     let decoded = served .before .before in
-    onward-back (decoded .before .before .before .before .loop .inv .1) (word t decoded) (served .serve .ensures) _ (down .next2 .given .1) _ _ _ _ (not-false _ (c .if1 .left)) (called .frame-run .ensures)
+    onward-back (decoded .before .before .before .before .loop .inv .1) (word t decoded) (served .serve .ensures) _ (down .next2 .given .1) _ _ _ _
+    (not-false _ (c .if1 .left)) (called .frame-run .ensures)
 
 loop-less : (t : ℕ) → frame-run-lts.Need-loop-less (claims t) (frame-run-at t) frame-run.Post Inv-loop μ-loop
 loop-less t c = omega (arith, back t c .0)
 
 loop-again : (t : ℕ) → frame-run-lts.Need-loop-again (claims t) (frame-run-at t) frame-run.Post Inv-loop μ-loop
 loop-again t c =
-    let called = c .before .before .before .before in
-    (called .frame-run .kept .1 .1 .0 ∙ simp length-set (called .before .before .before .before .before .before .before .before .before .before .before .loop .inv .0), back t c .1)
+    let called = c .before .before .before .before in (
+      called .frame-run .kept .1 .1 .0 ∙ simp length-set
+          (called .before .before .before .before .before .before .before .before .before .before .before .loop .inv .0),
+      back t c .1,
+    )
 
 enum-known-next-3 : (t : ℕ) → frame-run-lts.Need-enum-known-next-3 (claims t) (frame-run-at t) frame-run.Post Inv-loop μ-loop
 enum-known-next-3 t c = search needs

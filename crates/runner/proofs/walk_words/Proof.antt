@@ -6,20 +6,22 @@ use Prim.Native.Nat.{_+_, _-_, _*_, _/_, _%_, _≤_, _<_}
 use native.Mathlib.Omega.{arith}
 use lib.ListN.{length, length-set}
 use Rattle.beliefs.specs.Policy.{valid}
-use Rattle.walk.specs.Coherent.{Pictures}
+use Rattle.walk.specs.Pictures.{byWalk}
 use Rattle.runner.proofs.Progress.{not-barred}
 use Rattle.runner.proofs.Going.{Reads, Going, start, over, bad-word, bad-op, onward}
 use Rattle.runner.proofs.walk_words.Statement.{statement}
 use Rattle.runner.proofs.walk_words.Tie as tie
 
 abbrev Inv-loop : tie.InvT-loop
-Inv-loop policy trace answers₀ words state₀ i₀ answers state i = (i ≤ words) × (length answers ≡ length answers₀) × Going (Pictures policy) true 190 policy trace answers₀ i state answers
+Inv-loop policy trace answers₀ words state₀ i₀ answers state i =
+    (i ≤ words) × (length answers ≡ length answers₀) × Going byWalk policy trace answers₀ i state answers
 
 abbrev μ-loop : tie.MeasureT-loop
 μ-loop policy trace answers₀ words state₀ i₀ answers state i = words - i
 
 -- what the first tests left
-ready : (c : tie.Start Inv-loop μ-loop) → (valid (c .args .policy .now) ≡ true) × (length (c .args .trace .now) % 2 ≡ 0) × (length (c .args .trace .now) / 2 ≤ length (c .args .answers .now))
+ready : (c : tie.Start Inv-loop μ-loop) → (valid (c .args .policy .now) ≡ true) × (length (c .args .trace .now) % 2 ≡ 0) ×
+    (length (c .args .trace .now) / 2 ≤ length (c .args .answers .now))
 ready c = not-barred true (c .args .policy .now) (c .args .trace .now) (c .args .answers .now) (c .pre)
 
 more : (c : tie.After-decode-at Inv-loop μ-loop) → 2 * c .before .before .loop .i + 1 < length (c .before .before .before .before .before .args .trace .now)
@@ -32,19 +34,7 @@ word c =
     record { more = more read; word = sym (c .decoded .given .1) ∙ read .decode-at .ensures; policy = ready (read .before .before .before .before .before) .0 }
 
 loop-holds : tie.Need-loop-holds Inv-loop μ-loop
-loop-holds c = (omega arith, refl, start _ _ _ _ _ _)
-
-decode-at-requires : tie.Need-decode-at-requires Inv-loop μ-loop
-decode-at-requires c κs = search needs
-
-enum-known-decoded : tie.Need-enum-known-decoded Inv-loop μ-loop
-enum-known-decoded c = search needs
-
-enum-told : tie.Need-enum-told Inv-loop μ-loop
-enum-told c = search needs
-
-number-requires : tie.Need-number-requires Inv-loop μ-loop
-number-requires c κs = search needs
+loop-holds c = (omega arith, refl, start _ _ _ _)
 
 same-length : tie.Need-same-length Inv-loop μ-loop
 same-length c = c .before .before .before .before .before .loop .inv .1
@@ -52,10 +42,8 @@ same-length c = c .before .before .before .before .before .loop .inv .1
 returns : tie.Need-returns Inv-loop μ-loop
 returns c =
     let read = c .before .before .before in
-    bad-word _ _ _ _ _ _ _ _ _ (read .before .before .loop .inv .2) (more read) _ (read .decode-at .ensures) _ _ (c .number .ensures) (c .before .enum-told .given .1)
-
-serve-requires : tie.Need-serve-requires Inv-loop μ-loop
-serve-requires c κs = search needs
+    bad-word _ _ _ _ _ _ _ (read .before .before .loop .inv .2) (more read) _ (read .decode-at .ensures) _ _ (c .number .ensures)
+    (c .before .enum-told .given .1)
 
 same-length-2 : tie.Need-same-length-2 Inv-loop μ-loop
 same-length-2 c =
@@ -66,31 +54,25 @@ returns-2 : tie.Need-returns-2 Inv-loop μ-loop
 returns-2 c =
     let served = c .before .before in
     let decoded = served .before .before .before in
-    bad-op _ _ _ _ _ _ _ _ _ (decoded .before .before .before .before .loop .inv .2) _ (word decoded) _ _ _ (served .serve .ensures) (c .if1 .taken)
+    bad-op _ _ _ _ _ _ _ (decoded .before .before .before .before .loop .inv .2) _ (word decoded) _ _ (served .serve .ensures) (c .if1 .taken)
 
 slice-write-answers : tie.Need-slice-write-answers Inv-loop μ-loop
 slice-write-answers c =
     let turn = c .before .before .before .before .before .before .before .before .before in
     omega (arith, ready (turn .before .before .before), turn .loop .inv .1)
 
-add-i : tie.Need-add-i Inv-loop μ-loop
-add-i c = search needs
-
-loop-less : tie.Need-loop-less Inv-loop μ-loop
-loop-less c = search needs
-
 loop-again : tie.Need-loop-again Inv-loop μ-loop
 loop-again c =
     let served = c .before .before in
     let decoded = served .before .before .before in
     let turn = decoded .before .before .before .before in
-    (omega arith, simp length-set (turn .loop .inv .1), onward _ _ _ _ _ _ _ _ _ (turn .loop .inv .2) _ (word decoded) _ _ _ (served .serve .ensures) (c .if1 .left))
+    (omega arith, simp length-set (turn .loop .inv .1), onward _ _ _ _ _ _ _ (turn .loop .inv .2) _ (word decoded) _ _ (served .serve .ensures) (c .if1 .left))
 
 same-length-3 : tie.Need-same-length-3 Inv-loop μ-loop
 same-length-3 c = c .before .loop .inv .1
 
 returns-3 : tie.Need-returns-3 Inv-loop μ-loop
-returns-3 c = over _ _ _ _ _ _ _ _ _ (c .before .loop .inv .2) (omega (arith, ready (c .before .before .before .before)))
+returns-3 c = over _ _ _ _ _ _ _ (c .before .loop .inv .2) (omega (arith, ready (c .before .before .before .before)))
 
 pub walk-words-spec : {M : Type 1} → statement M
 walk-words-spec =
@@ -99,18 +81,18 @@ walk-words-spec =
     Inv-loop
     μ-loop
     loop-holds
-    decode-at-requires
-    enum-known-decoded
-    enum-told
-    number-requires
+    (search needs)
+    (search needs)
+    (search needs)
+    (search needs)
     same-length
     returns
-    serve-requires
+    (search needs)
     same-length-2
     returns-2
     slice-write-answers
-    add-i
-    loop-less
+    (search needs)
+    (search needs)
     loop-again
     same-length-3
     returns-3)

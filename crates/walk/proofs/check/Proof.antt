@@ -7,13 +7,14 @@ use native.Mathlib.Omega.{arith}
 use Rattle.bits.specs.Bit.{bit}
 use Rattle.beliefs.specs.Policy.{permits}
 use Rattle.beliefs.specs.Stack.{walk}
-use Rattle.walk.specs.State.{depth, frames, framesAt}
+use Rattle.walk.specs.Layout.{depth, frames, framesAt}
 use Rattle.walk.proofs.Turn.{after, start, bottom, barred, enabled, disabled, onward}
 use Rattle.walk.proofs.check.Statement.{statement}
 use Rattle.walk.proofs.check.Tie as tie
 
 abbrev Inv-loop : tie.InvT-loop
-Inv-loop policy state target asked left₀ looked₀ left looked = (looked + left ≡ depth state) × (walk policy target (frames state) ≡ after looked (walk policy target (framesAt state left)))
+Inv-loop policy state target asked left₀ looked₀ left looked =
+    (looked + left ≡ depth state) × (walk policy target (frames state) ≡ after looked (walk policy target (framesAt state left)))
 
 abbrev μ-loop : tie.MeasureT-loop
 μ-loop policy state target asked left₀ looked₀ left looked = left
@@ -41,45 +42,20 @@ disabled-here c =
     let at-with = c .before .before .before .before .before .before .before .before .before .before in
     c .meet3 .ensures .alone _ (at-with .with .ensures)
 
-with-requires : tie.Need-with-requires Inv-loop μ-loop
-with-requires c κs = search needs
-
-depth-requires : tie.Need-depth-requires Inv-loop μ-loop
-depth-requires c κs = search needs
-
 loop-holds : tie.Need-loop-holds Inv-loop μ-loop
 loop-holds c = rw (c .depth .ensures) (omega arith, start _)
-
-sub-left : tie.Need-sub-left Inv-loop μ-loop
-sub-left c = search needs
-
-add-looked : tie.Need-add-looked Inv-loop μ-loop
-add-looked c = search needs
-
-frame-at-requires : tie.Need-frame-at-requires Inv-loop μ-loop
-frame-at-requires c κs = search needs
-
-row-requires : tie.Need-row-requires Inv-loop μ-loop
-row-requires c κs = search needs
-
-meet-requires : tie.Need-meet-requires Inv-loop μ-loop
-meet-requires c κs = search needs
-
-meet-requires-2 : tie.Need-meet-requires-2 Inv-loop μ-loop
-meet-requires-2 c κs = search needs
-
-meet-requires-3 : tie.Need-meet-requires-3 Inv-loop μ-loop
-meet-requires-3 c κs = search needs
-
-loop-less : tie.Need-loop-less Inv-loop μ-loop
-loop-less c = search needs
 
 loop-again : tie.Need-loop-again Inv-loop μ-loop
 loop-again c =
     let past-if2 = c .before .before .before .before in
     let at-frame-at = past-if2 .before .before .before in
-    let turn = at-frame-at .before .before in
-    (omega arith, onward _ _ _ _ _ _ (turn .loop .inv .1) (at-frame-at .before .if1 .left) _ (at-frame-at .frame-at .ensures) (sym (permitted (past-if2 .before)) ∙ not-false _ (past-if2 .if2 .left)) (sym (enabled-here (c .before .before .before)) ∙ c .before .before .if3 .left) (sym (disabled-here (c .before)) ∙ c .if4 .left))
+    let turn = at-frame-at .before .before in (
+      omega arith,
+      onward _ _ _ _ _ _ (turn .loop .inv .1) (at-frame-at .before .if1 .left) _ (at-frame-at .frame-at .ensures)
+          (sym (permitted (past-if2 .before)) ∙ not-false _ (past-if2 .if2 .left))
+          (sym (enabled-here (c .before .before .before)) ∙ c .before .before .if3 .left)
+          (sym (disabled-here (c .before)) ∙ c .if4 .left),
+    )
 
 returns : tie.Need-returns Inv-loop μ-loop
 returns c = bottom _ _ _ _ _ _ (c .before .loop .inv .1) (c .if1 .taken)
@@ -87,20 +63,24 @@ returns c = bottom _ _ _ _ _ _ (c .before .loop .inv .1) (c .if1 .taken)
 returns-2 : tie.Need-returns-2 Inv-loop μ-loop
 returns-2 c =
     let past-if1 = c .before .before .before .before in
-    barred _ _ _ _ _ _ (past-if1 .before .loop .inv .1) (past-if1 .if1 .left) _ (c .before .before .before .frame-at .ensures) (sym (permitted (c .before)) ∙ not-true _ (c .if2 .taken))
+    barred _ _ _ _ _ _ (past-if1 .before .loop .inv .1) (past-if1 .if1 .left) _ (c .before .before .before .frame-at .ensures)
+    (sym (permitted (c .before)) ∙ not-true _ (c .if2 .taken))
 
 returns-3 : tie.Need-returns-3 Inv-loop μ-loop
 returns-3 c =
     let at-frame-at = c .before .before .before .before .before in
     let turn = at-frame-at .before .before in
-    enabled _ _ _ _ _ _ (turn .loop .inv .1) (at-frame-at .before .if1 .left) _ (at-frame-at .frame-at .ensures) (sym (permitted (c .before .before .before)) ∙ not-false _ (c .before .before .if2 .left)) (sym (enabled-here (c .before)) ∙ c .if3 .taken)
+    enabled _ _ _ _ _ _ (turn .loop .inv .1) (at-frame-at .before .if1 .left) _ (at-frame-at .frame-at .ensures)
+    (sym (permitted (c .before .before .before)) ∙ not-false _ (c .before .before .if2 .left)) (sym (enabled-here (c .before)) ∙ c .if3 .taken)
 
 returns-4 : tie.Need-returns-4 Inv-loop μ-loop
 returns-4 c =
     let past-if2 = c .before .before .before .before in
     let at-frame-at = past-if2 .before .before .before in
     let turn = at-frame-at .before .before in
-    disabled _ _ _ _ _ _ (turn .loop .inv .1) (at-frame-at .before .if1 .left) _ (at-frame-at .frame-at .ensures) (sym (permitted (past-if2 .before)) ∙ not-false _ (past-if2 .if2 .left)) (sym (enabled-here (c .before .before .before)) ∙ c .before .before .if3 .left) (sym (disabled-here (c .before)) ∙ c .if4 .taken)
+    disabled _ _ _ _ _ _ (turn .loop .inv .1) (at-frame-at .before .if1 .left) _ (at-frame-at .frame-at .ensures)
+    (sym (permitted (past-if2 .before)) ∙ not-false _ (past-if2 .if2 .left))
+    (sym (enabled-here (c .before .before .before)) ∙ c .before .before .if3 .left) (sym (disabled-here (c .before)) ∙ c .if4 .taken)
 
 pub check-spec : {M : Type 1} → statement M
 check-spec =
@@ -108,17 +88,17 @@ check-spec =
     (tie.spec
     Inv-loop
     μ-loop
-    with-requires
-    depth-requires
+    (search needs)
+    (search needs)
     loop-holds
-    sub-left
-    add-looked
-    frame-at-requires
-    row-requires
-    meet-requires
-    meet-requires-2
-    meet-requires-3
-    loop-less
+    (search needs)
+    (search needs)
+    (search needs)
+    (search needs)
+    (search needs)
+    (search needs)
+    (search needs)
+    (search needs)
     loop-again
     returns
     returns-2

@@ -4,14 +4,11 @@ use borrow.Author.Tests.{eq-eqb, ne-eqb}
 use Rattle.walk.proofs.first_marks.Statement.{statement}
 use Rattle.walk.proofs.first_marks.Tie as tie
 
-start-marks-requires : tie.Need-start-marks-requires
-start-marks-requires c κs = search needs
-
 returns : tie.Need-returns
-returns c = rw (eq-eqb _ _ (c .before .if1 .taken)) (c .start-marks .ensures)
+returns c = rw (eq-eqb _ 0 (c .before .if1 .taken)) (c .start-marks .ensures)
 
 returns-2 : tie.Need-returns-2
-returns-2 c = rw (ne-eqb _ _ (c .if1 .left))
+returns-2 c = rw (ne-eqb _ 0 (c .if1 .left))
 
 pub first-marks-spec : {M : Type 1} → statement M
-first-marks-spec = tie.close (tie.spec start-marks-requires returns returns-2)
+first-marks-spec = tie.close (tie.spec (search needs) returns returns-2)

@@ -8,7 +8,8 @@ use Rattle.bits.specs.Bit.{below}
 use Rattle.beliefs.specs.Lists.{each}
 use Rattle.beliefs.specs.Policy as policies
 use Rattle.beliefs.proofs.Lists.{each-false}
-use Rattle.walk.specs.State.{depth, inUse}
+use Rattle.walk.specs.Layout.{depth}
+use Rattle.walk.specs.Fits.{inUse}
 use Rattle.walk.proofs.Fits.{none-in-use, one-in-use, not-in-use}
 use Rattle.walk.proofs.frames_fit.Statement.{statement}
 use Rattle.walk.proofs.frames_fit.Tie as tie
@@ -19,17 +20,8 @@ Inv-loop policy state signers d marks₀ k₀ marks k = (each (inUse policy stat
 abbrev μ-loop : tie.MeasureT-loop
 μ-loop policy state signers d marks₀ k₀ marks k = d - k
 
-signers-requires : tie.Need-signers-requires Inv-loop μ-loop
-signers-requires c κs = search needs
-
-depth-requires : tie.Need-depth-requires Inv-loop μ-loop
-depth-requires c κs = search needs
-
 loop-holds : tie.Need-loop-holds Inv-loop μ-loop
 loop-holds c = (none-in-use _ _, omega arith)
-
-frame-at-requires : tie.Need-frame-at-requires Inv-loop μ-loop
-frame-at-requires c κs = search needs
 
 returns : tie.Need-returns Inv-loop μ-loop
 returns c =
@@ -37,15 +29,10 @@ returns c =
     let at-signers = turn .before .before in
     let a = at-signers .before .args in
     let k = turn .loop .k in
-    let bad : inUse (a .policy .now) (a .state .now) k ≡ false = not-in-use _ _ k (rw (← at-signers .signers .ensures, ← c .before .before .frame-at .ensures) (c .if1 .taken)) in
+    let bad : inUse (a .policy .now) (a .state .now) k ≡ false =
+    not-in-use _ _ k (rw (← at-signers .signers .ensures, ← c .before .before .frame-at .ensures) (c .if1 .taken)) in
     let l : k < depth (a .state .now) = rw (← turn .before .depth .ensures) (c .before .before .before .loop-test .taken) in
     sym (each-false _ _ k l bad)
-
-add-k : tie.Need-add-k Inv-loop μ-loop
-add-k c = search needs
-
-loop-less : tie.Need-loop-less Inv-loop μ-loop
-loop-less c = search needs
 
 loop-again : tie.Need-loop-again Inv-loop μ-loop
 loop-again c =
@@ -60,12 +47,6 @@ loop-again c =
       omega arith,
     )
 
-targets-requires : tie.Need-targets-requires Inv-loop μ-loop
-targets-requires c κs = search needs
-
-fits-requires : tie.Need-fits-requires Inv-loop μ-loop
-fits-requires c κs = search needs
-
 returns-2 : tie.Need-returns-2 Inv-loop μ-loop
 returns-2 c =
     let at-depth = c .before .before .before .before in
@@ -78,14 +59,14 @@ frames-fit-spec =
     (tie.spec
     Inv-loop
     μ-loop
-    signers-requires
-    depth-requires
+    (search needs)
+    (search needs)
     loop-holds
-    frame-at-requires
+    (search needs)
     returns
-    add-k
-    loop-less
+    (search needs)
+    (search needs)
     loop-again
-    targets-requires
-    fits-requires
+    (search needs)
+    (search needs)
     returns-2)

@@ -1,54 +1,49 @@
--- At depth 0 nothing is done; else zeros are stored in the newest frame's place, and the depth is one less.
+-- Without a frame nothing is done; else zeros are stored in the newest frame's place, and the depth is one less.
 use borrow.Author.Needs.{needs}
 use borrow.Author.Tests.{eq-eqb, ne-eqb}
-use mathlib.Core.Path.{refl}
-use Rattle.beliefs.proofs.Engine.{gives}
-use Rattle.walk.specs.State.{returnIn}
+use mathlib.Core.Path.{_≡_, refl, ap, sym, _∙_}
+use mathlib.Core.Logic.{_≢_}
+use native.Mathlib.Omega.{arith}
+use Rattle.answers.proofs.Given.{gives}
+use Rattle.words.specs.Words.{framed}
+use Rattle.words.proofs.Words.{some-frame}
+use Rattle.walk.specs.Layout.{depth}
 use Rattle.walk.proofs.leave.Statement.{statement}
 use Rattle.walk.proofs.leave.Tie as tie
 
-depth-requires : tie.Need-depth-requires
-depth-requires c κs = search needs
+tested : (c : tie.After-framed) → c .framed .result ≡ framed (depth (c .before .before .before .args .state .now))
+tested c = c .framed .ensures ∙ ap framed (c .before .depth .ensures)
 
-refused-requires : tie.Need-refused-requires
-refused-requires c κs = search needs
+there : (c : tie.Else1) → c .before .before .depth .result ≢ 0
+there c = some-frame _ (sym (c .before .framed .ensures) ∙ c .if1 .left)
 
 returns : tie.Need-returns
-unfolding returnIn
-returns c = rw (← c .before .before .depth .ensures, eq-eqb _ _ (c .before .if1 .taken)) (gives (c .refused .ensures) refl)
+returns c = rw (← tested (c .before .before), ne-eqb _ _ (c .before .if1 .taken)) (gives (c .refused .ensures) refl)
 
 sub-set-frame : tie.Need-sub-set-frame
-sub-set-frame c = search needs
-
-set-frame-requires : tie.Need-set-frame-requires
-set-frame-requires c κs = search needs
+sub-set-frame c = let some = there (c .before) in omega arith
 
 sub-state : tie.Need-sub-state
-sub-state c = search needs
-
-element-write-state : tie.Need-element-write-state
-element-write-state c = search needs
-
-done-requires : tie.Need-done-requires
-done-requires c κs = search needs
+sub-state c = let some = there (c .before .before) in omega arith
 
 returns-2 : tie.Need-returns-2
-unfolding returnIn
 returns-2 c =
     let stored = c .before in
-    let there = stored .before .before in
-    rw (← there .before .depth .ensures, ne-eqb _ _ (there .if1 .left), ← stored .set-frame .ensures) (gives (c .done .ensures) refl)
+    let past-if1 = stored .before .before in
+    rw (← tested (past-if1 .before), eq-eqb _ _ (past-if1 .if1 .left), ← past-if1 .before .before .depth .ensures, ← stored .set-frame .ensures)
+    (gives (c .done .ensures) refl)
 
 pub leave-spec : {M : Type 1} → statement M
 leave-spec =
     tie.close
     (tie.spec
-    depth-requires
-    refused-requires
+    (search needs)
+    (search needs)
+    (search needs)
     returns
     sub-set-frame
-    set-frame-requires
+    (search needs)
     sub-state
-    element-write-state
-    done-requires
+    (search needs)
+    (search needs)
     returns-2)

@@ -1,59 +1,57 @@
--- At depth 0 nothing is done; else the newest frame is stored with its new marks.
+-- Without a frame nothing is done; else the newest frame is stored with its new marks.
 use borrow.Author.Needs.{needs}
 use borrow.Author.Tests.{eq-eqb, ne-eqb}
-use mathlib.Core.Path.{refl}
-use Rattle.beliefs.proofs.Engine.{gives}
-use Rattle.walk.specs.State.{markIn}
+use mathlib.Core.Path.{_≡_, refl, ap, sym, _∙_}
+use mathlib.Core.Logic.{_≢_}
+use native.Mathlib.Omega.{arith}
+use Rattle.answers.proofs.Given.{gives}
+use Rattle.words.specs.Words.{framed}
+use Rattle.words.proofs.Words.{some-frame}
+use Rattle.walk.specs.Layout.{depth}
 use Rattle.walk.proofs.mark.Statement.{statement}
 use Rattle.walk.proofs.mark.Tie as tie
 
-depth-requires : tie.Need-depth-requires
-depth-requires c κs = search needs
+tested : (c : tie.After-framed) → c .framed .result ≡ framed (depth (c .before .before .before .args .state .now))
+tested c = c .framed .ensures ∙ ap framed (c .before .depth .ensures)
 
-refused-requires : tie.Need-refused-requires
-refused-requires c κs = search needs
+there : (c : tie.Else1) → c .before .before .depth .result ≢ 0
+there c = some-frame _ (sym (c .before .framed .ensures) ∙ c .if1 .left)
 
 returns : tie.Need-returns
-unfolding markIn
-returns c = rw (← c .before .before .depth .ensures, eq-eqb _ _ (c .before .if1 .taken)) (gives (c .refused .ensures) refl)
+returns c = rw (← tested (c .before .before), ne-eqb _ _ (c .before .if1 .taken)) (gives (c .refused .ensures) refl)
 
 sub-frame-at : tie.Need-sub-frame-at
-sub-frame-at c = search needs
-
-frame-at-requires : tie.Need-frame-at-requires
-frame-at-requires c κs = search needs
-
-remark-requires : tie.Need-remark-requires
-remark-requires c κs = search needs
+sub-frame-at c = let some = there (c .before) in omega arith
 
 sub-set-frame : tie.Need-sub-set-frame
-sub-set-frame c = search needs
-
-set-frame-requires : tie.Need-set-frame-requires
-set-frame-requires c κs = search needs
-
-done-requires : tie.Need-done-requires
-done-requires c κs = search needs
+sub-set-frame c = let some = there (c .before .before .before .before) in omega arith
 
 returns-2 : tie.Need-returns-2
-unfolding markIn
 returns-2 c =
-    let moved = c .before in
-    let marked = moved .before .before in
-    rw (← marked .before .before .before .before .depth .ensures, ne-eqb _ _ (marked .before .before .before .if1 .left), ← marked .before .frame-at .ensures, ← marked .remark .ensures)
-    (gives (c .done .ensures) (moved .set-frame .ensures))
+    let marked = c .before .before .before in
+    let read = marked .before in
+    let past-if1 = read .before .before in
+    rw (
+      ← tested (past-if1 .before),
+      eq-eqb _ _ (past-if1 .if1 .left),
+      ← past-if1 .before .before .depth .ensures,
+      ← read .frame-at .ensures,
+      ← marked .remark .ensures,
+    )
+    (gives (c .done .ensures) (c .before .set-frame .ensures))
 
 pub mark-spec : {M : Type 1} → statement M
 mark-spec =
     tie.close
     (tie.spec
-    depth-requires
-    refused-requires
+    (search needs)
+    (search needs)
+    (search needs)
     returns
     sub-frame-at
-    frame-at-requires
-    remark-requires
+    (search needs)
+    (search needs)
     sub-set-frame
-    set-frame-requires
-    done-requires
+    (search needs)
+    (search needs)
     returns-2)

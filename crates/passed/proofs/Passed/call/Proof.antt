@@ -1,7 +1,7 @@
 -- The tests come in the definition's order; what goes down is what `granted` says.
 use borrow.Author.Needs.{needs}
 use borrow.Author.Tests.{lt-ltb, le-ltb, eq-eqb, ne-eqb}
-use Rattle.passed.specs.State.{callOf}
+use Rattle.passed.specs.Does.{callOf}
 use Rattle.passed.proofs.Passed.call.Statement.{statement}
 use Rattle.passed.proofs.Passed.call.Tie as tie
 
@@ -9,22 +9,13 @@ returns : tie.Need-returns
 unfolding callOf
 returns c = rw (le-ltb _ _ (c .if1 .taken))
 
-start-marks-requires : tie.Need-start-marks-requires
-start-marks-requires c κs = search needs
-
 returns-2 : tie.Need-returns-2
 unfolding callOf
 returns-2 c = rw (lt-ltb _ _ (c .before .before .before .if1 .left), eq-eqb _ _ (c .before .if2 .taken), c .start-marks .ensures)
-
-granted-requires : tie.Need-granted-requires
-granted-requires c κs = search needs
-
-add-t8 : tie.Need-add-t8
-add-t8 c = search needs
 
 returns-3 : tie.Need-returns-3
 unfolding callOf
 returns-3 c = rw (lt-ltb _ _ (c .before .before .before .before .if1 .left), ne-eqb _ _ (c .before .before .if2 .left), c .before .granted .ensures)
 
 pub call-spec : {M : Type 1} → statement M
-call-spec = tie.close (tie.spec returns start-marks-requires returns-2 granted-requires add-t8 returns-3)
+call-spec = tie.close (tie.spec returns (search needs) returns-2 (search needs) (search needs) returns-3)

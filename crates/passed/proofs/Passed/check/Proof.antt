@@ -1,18 +1,16 @@
 -- A bit of what the frame would be granted is the verdict.
 use borrow.Author.Needs.{needs}
-use mathlib.Core.Path.{_∙_}
-use Rattle.passed.proofs.Serves.{granted-bit}
+use mathlib.Core.Path.{ap, _∙_}
+use Prim.Native.Nat.{ℕ}
+use Rattle.bits.specs.Bit.{bit}
+use Rattle.passed.proofs.Kept.{granted-bit}
 use Rattle.passed.proofs.Passed.check.Statement.{statement}
 use Rattle.passed.proofs.Passed.check.Tie as tie
 
-granted-requires : tie.Need-granted-requires
-granted-requires c κs = search needs
-
-has-requires : tie.Need-has-requires
-has-requires c κs = search needs
-
 returns : tie.Need-returns
-returns c = c .has .ensures ∙ rw (c .before .granted .ensures, granted-bit)
+returns c =
+    let a = c .before .before .args in
+    c .has .ensures ∙ ap (λ (w : ℕ). bit w (a .target)) (c .before .granted .ensures) ∙ granted-bit (a .policy .now) (a .self) (a .target)
 
 pub check-spec : {M : Type 1} → statement M
-check-spec = tie.close (tie.spec granted-requires has-requires returns)
+check-spec = tie.close (tie.spec (search needs) (search needs) returns)

@@ -3,14 +3,8 @@ use borrow.Author.Needs.{needs}
 use Rattle.passed.proofs.Passed.disable.Statement.{statement}
 use Rattle.passed.proofs.Passed.disable.Tie as tie
 
-without-requires : tie.Need-without-requires
-without-requires c κs = search needs
-
-revert-requires : tie.Need-revert-requires
-revert-requires c κs = search needs
-
 returns : tie.Need-returns
 returns c = rw (c .revert .ensures, c .before .without .ensures)
 
 pub disable-spec : {M : Type 1} → statement M
-disable-spec = tie.close (tie.spec without-requires revert-requires returns)
+disable-spec = tie.close (tie.spec (search needs) (search needs) returns)

@@ -3,11 +3,8 @@ use borrow.Author.Needs.{needs}
 use Rattle.passed.proofs.Passed.enable.Statement.{statement}
 use Rattle.passed.proofs.Passed.enable.Tie as tie
 
-with-requires : tie.Need-with-requires
-with-requires c κs = search needs
-
 returns : tie.Need-returns
 returns c = rw (c .with .ensures)
 
 pub enable-spec : {M : Type 1} → statement M
-enable-spec = tie.close (tie.spec with-requires returns)
+enable-spec = tie.close (tie.spec (search needs) returns)

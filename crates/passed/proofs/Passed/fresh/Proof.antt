@@ -1,6 +1,6 @@
 -- Four zeros are the state without a frame.
 use mathlib.Core.Path.{refl}
-use Rattle.passed.proofs.Serves.{fresh-pictures}
+use Rattle.passed.proofs.Kept.{fresh-pictures}
 use Rattle.passed.proofs.Passed.fresh.Statement.{statement}
 use Rattle.passed.proofs.Passed.fresh.Tie as tie
 

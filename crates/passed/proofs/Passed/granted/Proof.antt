@@ -3,11 +3,8 @@ use borrow.Author.Needs.{needs}
 use Rattle.passed.proofs.Passed.granted.Statement.{statement}
 use Rattle.passed.proofs.Passed.granted.Tie as tie
 
-row-requires : tie.Need-row-requires
-row-requires c κs = search needs
-
 returns : tie.Need-returns
 returns c = rw (c .row .ensures)
 
 pub granted-spec : {M : Type 1} → statement M
-granted-spec = tie.close (tie.spec row-requires returns)
+granted-spec = tie.close (tie.spec (search needs) returns)

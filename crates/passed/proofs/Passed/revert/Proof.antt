@@ -3,11 +3,8 @@ use borrow.Author.Needs.{needs}
 use Rattle.passed.proofs.Passed.revert.Statement.{statement}
 use Rattle.passed.proofs.Passed.revert.Tie as tie
 
-without-requires : tie.Need-without-requires
-without-requires c κs = search needs
-
 returns : tie.Need-returns
 returns c = rw (c .without .ensures)
 
 pub revert-spec : {M : Type 1} → statement M
-revert-spec = tie.close (tie.spec without-requires returns)
+revert-spec = tie.close (tie.spec (search needs) returns)

@@ -1,0 +1,4 @@
+pub mod Unique
+pub mod Numbers
+pub mod Given
+pub mod Alike
