@@ -127,20 +127,23 @@ SUFFIX, COMPILED = ("", "") if platform.machine() == "x86_64" else (f"-{platform
 
 HOW = """# Benchmark
 
-Made by `make bench`. The library, a Rust peer (`bench/peer.rs`) and a plain C peer (`bench/peer.c`) answer the same inputs in one process.
-The peers are hand-written for speed over the same layouts, by the same algorithms, with every test that document 01 asks for; before anything is timed, each
-number, figure, answer byte and state word of theirs was compared with the library's ({agreed} comparisons, damaged policies, states, words and steps among them).
+Made by `make bench`. The library, a Rust peer (`bench/peer.rs`) and a plain C peer (`bench/peer.c`) answer the same
+inputs in one process. The peers are hand-written for speed over the same layouts, by the same algorithms, with every
+test that document 01 asks for; before anything is timed, each number, figure, answer byte and state word of theirs was
+compared with the library's ({agreed} comparisons, damaged policies, states, words and steps among them).
 
 {machine}
 ## How to read it
 
-Nanoseconds are the best of {rounds} rounds, in which the three take turns, over three link orders and several processes: where a loop happens to lie in
-memory moves it by a tenth and more, and other work on the machine adds to a round (the median round lies {above:.0f} % above the best of its process). A ratio
-below 1 means that the library is quicker. Instructions are callgrind's, the difference of two counts so that start-up cancels; the driver's own loop and
-call, some ten instructions, are in all three.
+Nanoseconds are the best of {rounds} rounds, in which the three take turns, over three link orders and several processes:
+where a loop happens to lie in memory moves it by a tenth and more, and other work on the machine adds to a round (the
+median round lies {above:.0f} % above the best of its process). A ratio below 1 means that the library is quicker. Instructions
+are callgrind's, the difference of two counts so that start-up cancels; the driver's own loop and call, some ten
+instructions, are in all three.
 
-Policy: 8 signers, 40 targets. Traces: 16,384 words. A single operation or a derivation first tests the whole policy (13) and the whole state (14), which a run does once.
-The check under d frames walks all of them: the bottom frame has enabled the target. The passed run calls itself at each call word in all three.
+Policy: 8 signers, 40 targets. Traces: 16,384 words. A single operation or a derivation first tests the whole policy
+(13) and the whole state (14), which a run does once. The check under d frames walks all of them: the bottom frame has
+enabled the target. The passed run calls itself at each call word in all three.
 
 """
 
@@ -153,8 +156,9 @@ One check with every refusal tested, in nanoseconds.
 
 """
 
-JAVA = """The Java column is the platform's own `AccessController.checkPermission`, for scale: as many frames, of eight protection domains in turn, each granted
-the permission, the bottom one privileged; it tests no state for damage, and before it is timed a frame without the permission is seen to be refused at every place."""
+JAVA = """The Java column is the platform's own `AccessController.checkPermission`, for scale: as many frames, of eight protection
+domains in turn, each granted the permission, the bottom one privileged; it tests no state for damage, and before it is
+timed a frame without the permission is seen to be refused at every place."""
 
 NO_JAVA = "No JDK of version 17 to 23 is installed here, so the Java platform's own walk is left out."
 
