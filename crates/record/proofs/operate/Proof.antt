@@ -43,14 +43,14 @@ returns-4 c =
     let known = c .before .before .before .before .before in
     let read = known .before .before in
     done-word byRecord _ _ _ _ (passed (read .before)) _ (read .decode .ensures) _ (known .decoded .given .1)
-    _ _ (c .before .before .serve .ensures) _ (rw (eq-eqb _ _ (c .if3 .taken)))
+    _ _ (c .before .before .serve .ensures) _ (rw (eq-eqb _ 0 (c .if3 .taken)))
 
 returns-5 : tie.Need-returns-5
 returns-5 c =
     let known = c .before .before .before .before .before in
     let read = known .before .before in
     done-word byRecord _ _ _ _ (passed (read .before)) _ (read .decode .ensures) _ (known .decoded .given .1)
-    _ _ (c .before .before .serve .ensures) _ (rw (ne-eqb _ _ (c .if3 .left)))
+    _ _ (c .before .before .serve .ensures) _ (rw (ne-eqb _ 0 (c .if3 .left)))
 
 pub operate-spec : {M : Type 1} → statement M
 operate-spec =
