@@ -8,13 +8,13 @@ returns : tie.Need-returns
 returns c = rw (not-true (c .before .before .args .chain .taken) (c .if1 .taken)) (record { number = refl; figure = refl })
 
 returns-2 : tie.Need-returns-2
-returns-2 c = rw (not-false (c .before .before .before .before .args .chain .taken) (c .before .before .if1 .left), ne-eqb _ _ (c .if2 .taken)) (record {
+returns-2 c = rw (not-false (c .before .before .before .before .args .chain .taken) (c .before .before .if1 .left), ne-eqb _ 0 (c .if2 .taken)) (record {
   number = refl;
   figure = refl;
 })
 
 returns-3 : tie.Need-returns-3
-returns-3 c = rw (not-false (c .before .before .before .before .args .chain .taken) (c .before .before .if1 .left), eq-eqb _ _ (c .if2 .left)) (record {
+returns-3 c = rw (not-false (c .before .before .before .before .args .chain .taken) (c .before .before .if1 .left), eq-eqb _ 0 (c .if2 .left)) (record {
   number = refl;
   figure = refl;
 })

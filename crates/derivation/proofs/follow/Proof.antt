@@ -30,7 +30,7 @@ returns-4 c = rw (
   ne-eqb _ _ (c .before .before .before .if1 .left),
   ne-eqb _ _ (c .before .before .if2 .left),
   ne-eqb _ _ (c .before .if3 .left),
-  ne-eqb _ _ (c .if4 .taken),
+  ne-eqb _ 0 (c .if4 .taken),
 )
 
 returns-5 : tie.Need-returns-5
@@ -42,7 +42,7 @@ returns-5 c =
       or-false (past-if1 .before .args .chain .taken),
       ne-eqb _ _ (c .before .before .before .if2 .left),
       ne-eqb _ _ (c .before .before .if3 .left),
-      eq-eqb _ _ (c .before .if4 .left),
+      eq-eqb _ 0 (c .before .if4 .left),
     ) (c .drop-last .ensures .over _)
 
 pub follow-spec : {M : Type 1} → statement M
