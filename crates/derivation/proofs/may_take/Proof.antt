@@ -1,9 +1,24 @@
 -- The tests of rule 0 in their order.
 use borrow.Author.Needs.{needs}
 use borrow.Author.Tests.{not-true, not-false}
+use mathlib.Core.Path.{_≡_, ap, _∙_}
+use Prim.Native.Nat.{_-_}
+use lib.ListN.{getD}
+use Rattle.bits.specs.Bit.{bit}
+use Rattle.beliefs.specs.declared.Marked.{Marked}
+use Rattle.beliefs.specs.Stack.{nobody}
+use Rattle.walk.specs.Layout.{frames}
 use Rattle.derivation.proofs.Entries.{take-none, take-past, take-in}
 use Rattle.derivation.proofs.may_take.Statement.{statement}
 use Rattle.derivation.proofs.may_take.Tie as tie
+
+-- the last frame of a take is asked for its enabled mark
+enabled-there : (c : tie.After-has)
+    → let a = c .before .before .before .before .before .args in
+    c .has .result ≡ bit (getD (frames (a .state .now)) (a .n - 1) nobody .enabled) (a .target)
+enabled-there c =
+    let a = c .before .before .before .before .before .args in
+    c .has .ensures ∙ ap (λ (m : Marked). bit (m .enabled) (a .target)) (c .before .frame .ensures)
 
 returns : tie.Need-returns
 returns c = take-none _ _ (c .before .args .state .now) (c .if1 .taken)
@@ -18,8 +33,7 @@ returns-3 c =
     rw (
       take-in (entry .args .target) (entry .args .n) (entry .args .state .now) (at-depth .before .if1 .left)
           (rw (at-depth .depth .ensures) at (c .before .before .before .if2 .left)),
-      ← c .before .before .frame .ensures,
-      ← c .before .has .ensures,
+      ← enabled-there (c .before),
       not-true (c .before .has .result) (c .if3 .taken),
     )
 
@@ -30,8 +44,7 @@ returns-4 c =
     rw (
       take-in (past-if1 .before .args .target) (past-if1 .before .args .n) (past-if1 .before .args .state .now) (past-if1 .if1 .left)
           (rw (past-if2 .before .depth .ensures) at (past-if2 .if2 .left)),
-      ← c .before .before .before .frame .ensures,
-      ← c .before .before .has .ensures,
+      ← enabled-there (c .before .before),
       not-false (c .before .before .has .result) (c .before .if3 .left),
     ) (c .none-disabled .ensures)
 
