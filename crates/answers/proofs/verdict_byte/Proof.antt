@@ -10,4 +10,4 @@ returns-2 : tie.Need-returns-2
 returns-2 c = rw (c .if1 .left)
 
 pub verdict-byte-spec : {M : Type 1} → statement M
-verdict-byte-spec = tie.close (tie.spec (search needs) (search needs) (search needs) returns returns-2)
+verdict-byte-spec = tie.close (tie.spec (λ c. search needs) (λ c. search needs) (λ c. search needs) returns returns-2)

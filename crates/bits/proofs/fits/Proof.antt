@@ -14,4 +14,4 @@ returns-2 : tie.Need-returns-2
 returns-2 c = sym (below-high _ _ (c .before .fits .w .fits) (c .if1 .left))
 
 pub fits-spec : {M : Type 1} → statement M
-fits-spec = tie.close (tie.spec (search needs) returns returns-2)
+fits-spec = tie.close (tie.spec (λ c. search needs) returns returns-2)

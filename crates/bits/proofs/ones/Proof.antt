@@ -18,4 +18,4 @@ returns-2 : tie.Need-returns-2
 returns-2 c = sym (lowest-high _ (c .if1 .left))
 
 pub ones-spec : {M : Type 1} → statement M
-ones-spec = tie.close (tie.spec (search needs) sub-result returns returns-2)
+ones-spec = tie.close (tie.spec (λ c. search needs) sub-result returns returns-2)

@@ -13,12 +13,12 @@ number-spec =
     (tie.spec
     (λ token from base to n₀ i₀ i-end n i. Unit {0})
     (λ token from base to n₀ i₀ i-end n i. i-end - i)
-    (search needs)
-    (search needs)
-    (search needs)
-    (search needs)
-    (search needs)
-    (search needs)
+    (λ c. search needs)
+    (λ c. search needs)
+    (λ c. search needs)
+    (λ c. search needs)
+    (λ c. search needs)
+    (λ c. search needs)
     (λ c.
     let at-loop = c .before .before .before .before .before in
     let h : at-loop .loop .n * at-loop .before .before .args .base ≤ 18446744073709551615 - c .before .before .digit .result =
@@ -29,7 +29,7 @@ number-spec =
     let h : at-loop .loop .n * at-loop .before .before .args .base ≤ 18446744073709551615 - c .before .before .digit .result =
     le-div-iff-mul-le (omega arith) .0 (ltb-false _ _ (c .if2 .left)) in
     omega arith)
-    (search needs)
-    (search needs)
-    (search needs)
-    (search needs))
+    (λ c. search needs)
+    (λ c. search needs)
+    (λ c. search needs)
+    (λ c. search needs))

@@ -15,4 +15,4 @@ returns c =
     (c .before .depth .ensures)
 
 pub barred-spec : {M : Type 1} → statement M
-barred-spec = tie.close (tie.spec (search needs) (search needs) (search needs) returns)
+barred-spec = tie.close (tie.spec (λ c. search needs) (λ c. search needs) (λ c. search needs) returns)

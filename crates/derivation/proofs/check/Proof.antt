@@ -17,4 +17,4 @@ returns-2 c =
     (sym (c .before .before .barred .ensures) ∙ c .before .if1 .left) (entry .args .steps .now)) (c .judge .ensures)
 
 pub check-spec : {M : Type 1} → statement M
-check-spec = tie.close (tie.spec (search needs) returns (search needs) returns-2)
+check-spec = tie.close (tie.spec (λ c. search needs) returns (λ c. search needs) returns-2)

@@ -22,4 +22,4 @@ returns-3 c = record {
 }
 
 pub drop-last-spec : {M : Type 1} → statement M
-drop-last-spec = tie.close (tie.spec returns (search needs) (search needs) returns-2 returns-3)
+drop-last-spec = tie.close (tie.spec returns (λ c. search needs) (λ c. search needs) returns-2 returns-3)

@@ -49,12 +49,12 @@ pub follow-spec : {M : Type 1} → statement M
 follow-spec =
     tie.close
     (tie.spec
-    (search needs)
+    (λ c. search needs)
     returns
-    (search needs)
+    (λ c. search needs)
     returns-2
-    (search needs)
+    (λ c. search needs)
     returns-3
     returns-4
-    (search needs)
+    (λ c. search needs)
     returns-5)

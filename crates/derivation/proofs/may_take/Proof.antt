@@ -53,10 +53,10 @@ may-take-spec =
     tie.close
     (tie.spec
     returns
-    (search needs)
+    (λ c. search needs)
     returns-2
-    (search needs)
-    (search needs)
+    (λ c. search needs)
+    (λ c. search needs)
     returns-3
-    (search needs)
+    (λ c. search needs)
     returns-4)

@@ -55,12 +55,12 @@ none-disabled-spec =
     (tie.spec
     Inv-loop
     μ-loop
-    (search needs)
+    (λ c. search needs)
     loop-holds
-    (search needs)
-    (search needs)
+    (λ c. search needs)
+    (λ c. search needs)
     returns
-    (search needs)
-    (search needs)
+    (λ c. search needs)
+    (λ c. search needs)
     loop-again
     returns-2)

@@ -72,15 +72,15 @@ permit-spec =
     tie.close
     (tie.spec
     returns
-    (search needs)
+    (λ c. search needs)
     returns-2
-    (search needs)
+    (λ c. search needs)
     returns-3
-    (search needs)
-    (search needs)
-    (search needs)
-    (search needs)
-    (search needs)
+    (λ c. search needs)
+    (λ c. search needs)
+    (λ c. search needs)
+    (λ c. search needs)
+    (λ c. search needs)
     returns-4
-    (search needs)
+    (λ c. search needs)
     returns-5)

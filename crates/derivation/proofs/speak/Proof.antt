@@ -36,4 +36,4 @@ returns-4 c =
 pub speak-spec : {M : Type 1} → statement M
 speak-spec =
     tie.close
-    (tie.spec returns (search needs) returns-2 (search needs) returns-3 (search needs) returns-4)
+    (tie.spec returns (λ c. search needs) returns-2 (λ c. search needs) returns-3 (λ c. search needs) returns-4)

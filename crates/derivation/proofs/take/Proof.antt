@@ -22,4 +22,4 @@ returns-2 c = let may : mayTake (c .before .before .args .target) (place (c .bef
     (ap (λ (l : List Entry). some (record { took = true; chain = l })) (fresh _ _ (may-within _ _ _ may .1)))
 
 pub take-spec : {M : Type 1} → statement M
-take-spec = tie.close (tie.spec (search needs) (search needs) returns returns-2)
+take-spec = tie.close (tie.spec (λ c. search needs) (λ c. search needs) returns returns-2)

@@ -36,13 +36,13 @@ pub write-ours-spec : {M : Type 1} → statement M
 write-ours-spec =
     tie.close
     (tie.spec
-    (search needs)
-    (search needs)
+    (λ c. search needs)
+    (λ c. search needs)
     put-rule-requires
-    (search needs)
+    (λ c. search needs)
     put-rule-requires-2
-    (search needs)
-    (search needs)
+    (λ c. search needs)
+    (λ c. search needs)
     put-drops-requires
     same-length
     returns)

@@ -20,4 +20,4 @@ returns-2 c = asks-by _ _ _ _ _ _ (rw (← c .before .before .passed-in .ensures
 pub galmuvesh-passed-check-spec : {M : Type 1} → statement M
 galmuvesh-passed-check-spec =
     tie.close
-    (tie.spec (search needs) (search needs) (search needs) (search needs) returns returns-2)
+    (tie.spec (λ c. search needs) (λ c. search needs) (λ c. search needs) (λ c. search needs) returns returns-2)

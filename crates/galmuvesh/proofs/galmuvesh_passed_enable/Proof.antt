@@ -24,4 +24,4 @@ returns-2 c = moves-by _ _ _ refl _ _ (rw (← c .before .before .passed-in .ens
 pub galmuvesh-passed-enable-spec : {M : Type 1} → statement M
 galmuvesh-passed-enable-spec =
     tie.close
-    (tie.spec (search needs) (search needs) (search needs) (search needs) returns returns-2)
+    (tie.spec (λ c. search needs) (λ c. search needs) (λ c. search needs) (λ c. search needs) returns returns-2)

@@ -10,4 +10,4 @@ returns-2 : tie.Need-returns-2
 returns-2 c = sym (List·getD-eq-default (now (c .before .args .answers)) 0 (c .if1 .left))
 
 pub answer-at-spec : {M : Type 1} → statement M
-answer-at-spec = tie.close (tie.spec (search needs) (search needs) returns-2)
+answer-at-spec = tie.close (tie.spec (λ c. search needs) (λ c. search needs) returns-2)

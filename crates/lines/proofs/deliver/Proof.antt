@@ -27,4 +27,4 @@ returns-2 c =
     whole (omega (arith, span entry)) (c .before .before .put .ensures)
 
 pub deliver-spec : {M : Type 1} → statement M
-deliver-spec = tie.close (tie.spec returns slice-aggregate-put put-requires (search needs) returns-2)
+deliver-spec = tie.close (tie.spec returns slice-aggregate-put put-requires (λ c. search needs) returns-2)

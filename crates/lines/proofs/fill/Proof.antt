@@ -98,19 +98,19 @@ fill-spec =
     (tie.spec
     Inv-loop
     μ-loop
-    (search needs)
+    (λ c. search needs)
     add-end
     loop-holds
-    (search needs)
-    (search needs)
-    (search needs)
+    (λ c. search needs)
+    (λ c. search needs)
+    (λ c. search needs)
     same-length
     returns
     array-share-prefix-line
     slice-aggregate-put
     put-requires
     add-next
-    (search needs)
+    (λ c. search needs)
     loop-again
     same-length-2
     returns-2)

@@ -22,9 +22,9 @@ pub policy-line-spec : {M : Type 1} → statement M
 policy-line-spec =
     tie.close
     (tie.spec
-    (search needs)
-    (search needs)
-    (search needs)
+    (λ c. search needs)
+    (λ c. search needs)
+    (λ c. search needs)
     deliver-requires
-    (search needs)
+    (λ c. search needs)
     returns)

@@ -27,15 +27,15 @@ pub put-at-spec : {M : Type 1} → statement M
 put-at-spec =
     tie.close
     (tie.spec
-    (search needs)
-    (search needs)
+    (λ c. search needs)
+    (λ c. search needs)
     returns
-    (search needs)
-    (search needs)
-    (search needs)
-    (search needs)
-    (search needs)
+    (λ c. search needs)
+    (λ c. search needs)
+    (λ c. search needs)
+    (λ c. search needs)
+    (λ c. search needs)
     returns-2
-    (search needs)
-    (search needs)
+    (λ c. search needs)
+    (λ c. search needs)
     returns-3)

@@ -30,13 +30,13 @@ pub print-listing-spec : {M : Type 1} → statement M
 print-listing-spec =
     tie.close
     (tie.spec
-    (search needs)
+    (λ c. search needs)
     slice-aggregate-read
-    (search needs)
-    (search needs)
-    (search needs)
+    (λ c. search needs)
+    (λ c. search needs)
+    (λ c. search needs)
     sub-print-run
     part-print-run-start
     part-print-run-end
-    (search needs)
-    (search needs))
+    (λ c. search needs)
+    (λ c. search needs))

@@ -14,9 +14,9 @@ pub print-refused-spec : {M : Type 1} → statement M
 print-refused-spec =
     tie.close
     (tie.spec
-    (search needs)
-    (search needs)
+    (λ c. search needs)
+    (λ c. search needs)
     array-share-prefix-line
     slice-aggregate-write-all
-    (search needs)
-    (search needs))
+    (λ c. search needs)
+    (λ c. search needs))

@@ -22,4 +22,4 @@ returns-3 c =
     (c .fits3 .ensures)
 
 pub bits-fit-spec : {M : Type 1} → statement M
-bits-fit-spec = tie.close (tie.spec (search needs) returns returns-2 (search needs) returns-3)
+bits-fit-spec = tie.close (tie.spec (λ c. search needs) returns returns-2 (λ c. search needs) returns-3)

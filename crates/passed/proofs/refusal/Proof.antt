@@ -14,4 +14,4 @@ returns c =
     c .refusal-of .ensures ∙ ap (λ (fits : Bool). refusalOf (a .policy .now) fits (a .s .depth) (a .op)) (c .before .valid .ensures)
 
 pub refusal-spec : {M : Type 1} → statement M
-refusal-spec = tie.close (tie.spec (search needs) (search needs) returns)
+refusal-spec = tie.close (tie.spec (λ c. search needs) (λ c. search needs) returns)

@@ -35,4 +35,4 @@ returns-4 c =
 
 pub valid-spec : {M : Type 1} → statement M
 valid-spec =
-    tie.close (tie.spec (search needs) returns returns-2 (search needs) returns-3 (search needs) (search needs) returns-4)
+    tie.close (tie.spec (λ c. search needs) returns returns-2 (λ c. search needs) returns-3 (λ c. search needs) (λ c. search needs) returns-4)

@@ -31,4 +31,4 @@ returns-3 : tie.Need-returns-3
 returns-3 c = rw (past (c .before), le-ltb _ _ (c .if2 .left))
 
 pub cut-spec : {M : Type 1} → statement M
-cut-spec = tie.close (tie.spec returns (search needs) (search needs) (search needs) (search needs) returns-2 returns-3)
+cut-spec = tie.close (tie.spec returns (λ c. search needs) (λ c. search needs) (λ c. search needs) (λ c. search needs) returns-2 returns-3)

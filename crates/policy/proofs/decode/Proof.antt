@@ -12,4 +12,4 @@ returns c =
     c .decode .ensures ∙ ap₂ (λ (s n : ℕ). decoded s n (a .word) (a .index)) (c .before .before .signers .ensures) (c .before .targets .ensures)
 
 pub decode-spec : {M : Type 1} → statement M
-decode-spec = tie.close (tie.spec (search needs) (search needs) (search needs) returns)
+decode-spec = tie.close (tie.spec (λ c. search needs) (λ c. search needs) (λ c. search needs) returns)

@@ -30,14 +30,14 @@ pub headed-spec : {M : Type 1} → statement M
 headed-spec =
     tie.close
     (tie.spec
-    (search needs)
+    (λ c. search needs)
     mul-result
-    (search needs)
+    (λ c. search needs)
     sub-result
     mul-result-2
     add-result
-    (search needs)
+    (λ c. search needs)
     sub-result-2
     mul-result-3
     add-result-2
-    (search needs))
+    (λ c. search needs))

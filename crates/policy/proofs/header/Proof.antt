@@ -20,10 +20,10 @@ pub header-spec : {M : Type 1} → statement M
 header-spec =
     tie.close
     (tie.spec
-    (search needs)
+    (λ c. search needs)
     cast-result
     mul-result
-    (search needs)
+    (λ c. search needs)
     cast-result-2
     add-result
-    (search needs))
+    (λ c. search needs))

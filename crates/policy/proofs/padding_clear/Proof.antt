@@ -69,8 +69,8 @@ padding-clear-spec =
     Inv-loop
     μ-loop
     loop-holds
-    (search needs)
-    (search needs)
+    (λ c. search needs)
+    (λ c. search needs)
     returns
     add-s
     loop-less

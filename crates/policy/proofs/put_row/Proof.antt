@@ -56,8 +56,8 @@ put-row-spec =
     Inv-loop
     μ-loop
     loop-holds
-    (search needs)
-    (search needs)
+    (λ c. search needs)
+    (λ c. search needs)
     add-bytes
     slice-write-bytes
     add-k

@@ -72,13 +72,13 @@ put-rows-spec =
     (tie.spec
     Inv-loop
     μ-loop
-    (search needs)
+    (λ c. search needs)
     loop-holds
     mul-put-row
     add-put-row
-    (search needs)
+    (λ c. search needs)
     put-row-requires
-    (search needs)
+    (λ c. search needs)
     loop-less
     loop-again
     same-length

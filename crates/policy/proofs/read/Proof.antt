@@ -19,4 +19,4 @@ returns-2 c =
     record { number = sym z; value = rw (eq-eqb _ _ z) (c .store .ensures) }
 
 pub read-spec : {M : Type 1} → statement M
-read-spec = tie.close (tie.spec (search needs) returns store-requires returns-2)
+read-spec = tie.close (tie.spec (λ c. search needs) returns store-requires returns-2)

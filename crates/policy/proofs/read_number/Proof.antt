@@ -81,14 +81,14 @@ read-number-spec =
     tie.close
     (tie.spec
     returns
-    (search needs)
+    (λ c. search needs)
     returns-2
-    (search needs)
-    (search needs)
-    (search needs)
+    (λ c. search needs)
+    (λ c. search needs)
+    (λ c. search needs)
     returns-3
     returns-4
-    (search needs)
+    (λ c. search needs)
     padding-clear-requires
     returns-5
     returns-6)

@@ -12,4 +12,4 @@ unfolding refusal
 returns c = c .unless .ensures ∙ ap (λ (b : Bool). unless b badPolicy) (c .before .valid .ensures)
 
 pub refusal-spec : {M : Type 1} → statement M
-refusal-spec = tie.close (tie.spec (search needs) (search needs) returns)
+refusal-spec = tie.close (tie.spec (λ c. search needs) (λ c. search needs) returns)

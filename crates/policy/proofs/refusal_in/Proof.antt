@@ -11,4 +11,4 @@ returns-2 : tie.Need-returns-2
 returns-2 c = rw (← c .before .before .refusal .ensures, eq-eqb _ _ (c .before .if1 .left)) (c .unless .ensures)
 
 pub refusal-in-spec : {M : Type 1} → statement M
-refusal-in-spec = tie.close (tie.spec (search needs) returns (search needs) returns-2)
+refusal-in-spec = tie.close (tie.spec (λ c. search needs) returns (λ c. search needs) returns-2)

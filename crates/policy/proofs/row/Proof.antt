@@ -10,4 +10,4 @@ returns : tie.Need-returns
 returns c = sym (List·getD-eq-default (c .before .before .args .policy .now) 0 (omega arith))
 
 pub row-spec : {M : Type 1} → statement M
-row-spec = tie.close (tie.spec returns (search needs) (search needs) (search needs) (search needs))
+row-spec = tie.close (tie.spec returns (λ c. search needs) (λ c. search needs) (λ c. search needs) (λ c. search needs))

@@ -45,8 +45,8 @@ row-in-spec =
     mul-at
     add-at
     add-end
-    (search needs)
-    (search needs)
+    (λ c. search needs)
+    (λ c. search needs)
     part-row-of-end
-    (search needs)
+    (λ c. search needs)
     returns-2)

@@ -52,11 +52,11 @@ row-of-spec =
     Inv-loop
     μ-loop
     loop-holds
-    (search needs)
+    (λ c. search needs)
     mul-w
     shared-slice-read-mirrored
-    (search needs)
-    (search needs)
+    (λ c. search needs)
+    (λ c. search needs)
     add-w
     loop-less
     loop-again

@@ -27,4 +27,4 @@ returns c =
 
 pub rows-together-spec : {M : Type 1} → statement M
 rows-together-spec =
-    tie.close (tie.spec Inv-loop μ-loop loop-holds (search needs) (search needs) (search needs) loop-again returns)
+    tie.close (tie.spec Inv-loop μ-loop loop-holds (λ c. search needs) (λ c. search needs) (λ c. search needs) loop-again returns)

@@ -19,4 +19,4 @@ returns : tie.Need-returns
 returns c = rw (c .width .ensures)
 
 pub size-spec : {M : Type 1} → statement M
-size-spec = tie.close (tie.spec (search needs) mul-result add-result returns)
+size-spec = tie.close (tie.spec (λ c. search needs) mul-result add-result returns)

@@ -10,4 +10,4 @@ returns-2 : tie.Need-returns-2
 returns-2 c = rw (← c .before .is-full .ensures, c .if1 .left)
 
 pub start-marks-spec : {M : Type 1} → statement M
-start-marks-spec = tie.close (tie.spec (search needs) (search needs) (search needs) returns returns-2)
+start-marks-spec = tie.close (tie.spec (λ c. search needs) (λ c. search needs) (λ c. search needs) returns returns-2)

@@ -43,4 +43,4 @@ returns-3 c =
 pub write-spec : {M : Type 1} → statement M
 write-spec =
     tie.close
-    (tie.spec (search needs) returns (search needs) (search needs) size-requires returns-2 put-requires (search needs) returns-3)
+    (tie.spec (λ c. search needs) returns (λ c. search needs) (λ c. search needs) size-requires returns-2 put-requires (λ c. search needs) returns-3)

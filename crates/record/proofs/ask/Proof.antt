@@ -22,4 +22,4 @@ returns-2 c =
     rw (← tested (past-if1 .before), eq-eqb _ _ (past-if1 .if1 .left), ← c .before .granted .ensures) (gives (c .verdict .ensures) refl)
 
 pub ask-spec : {M : Type 1} → statement M
-ask-spec = tie.close (tie.spec (search needs) (search needs) (search needs) returns (search needs) (search needs) returns-2)
+ask-spec = tie.close (tie.spec (λ c. search needs) (λ c. search needs) (λ c. search needs) returns (λ c. search needs) (λ c. search needs) returns-2)

@@ -34,4 +34,4 @@ returns-2 c =
     c .hand-down .ensures ∙ deeper (entry .args .policy .now) (entry .args .state .now) _ (omega arith)
 
 pub begin-spec : {M : Type 1} → statement M
-begin-spec = tie.close (tie.spec (search needs) (search needs) (search needs) (search needs) returns returns-2)
+begin-spec = tie.close (tie.spec (λ c. search needs) (λ c. search needs) (λ c. search needs) (λ c. search needs) returns returns-2)

@@ -43,6 +43,7 @@ returns-2 c =
 pub call-spec : {M : Type 1} → statement M
 call-spec =
     tie.close
-    (tie.spec (search needs) (search needs) (search needs) returns begin-requires (search needs) (search needs) element-write-state (search needs)
-    (search needs)
-    (search needs) returns-2)
+    (tie.spec (λ c. search needs) (λ c. search needs) (λ c. search needs) returns begin-requires (λ c. search needs) (λ c. search needs)
+    element-write-state (λ c. search needs)
+    (λ c. search needs)
+    (λ c. search needs) returns-2)

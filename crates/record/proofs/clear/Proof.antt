@@ -26,5 +26,6 @@ returns c = let e : c .before .loop .i ≡ 65 = omega arith in rw e at (c .befor
 pub clear-spec : {M : Type 1} → statement M
 clear-spec =
     tie.close
-    (tie.spec Inv-loop μ-loop (search needs) (search needs) loop-holds (search needs) (search needs) (search needs) (search needs) (search needs) loop-again
+    (tie.spec Inv-loop μ-loop (λ c. search needs) (λ c. search needs) loop-holds (λ c. search needs) (λ c. search needs) (λ c. search needs)
+    (λ c. search needs) (λ c. search needs) loop-again
     returns)

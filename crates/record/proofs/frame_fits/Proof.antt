@@ -47,5 +47,6 @@ returns-3 c =
 pub frame-fits-spec : {M : Type 1} → statement M
 frame-fits-spec =
     tie.close
-    (tie.spec (search needs) (search needs) returns (search needs) (search needs) (search needs) (search needs) (search needs) returns-2 (search needs)
-    (search needs) returns-3)
+    (tie.spec (λ c. search needs) (λ c. search needs) returns (λ c. search needs) (λ c. search needs) (λ c. search needs) (λ c. search needs)
+    (λ c. search needs) returns-2 (λ c. search needs)
+    (λ c. search needs) returns-3)

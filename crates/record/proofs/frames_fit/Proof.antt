@@ -35,4 +35,5 @@ returns-2 c =
     rw (← c .before .before .depth .ensures) (sym (rw e at (c .before .loop .inv .0)))
 
 pub frames-fit-spec : {M : Type 1} → statement M
-frames-fit-spec = tie.close (tie.spec Inv-loop μ-loop (search needs) loop-holds (search needs) returns (search needs) (search needs) loop-again returns-2)
+frames-fit-spec = tie.close (tie.spec Inv-loop μ-loop (λ c. search needs) loop-holds (λ c. search needs) returns (λ c. search needs)
+    (λ c. search needs) loop-again returns-2)

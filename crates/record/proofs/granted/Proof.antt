@@ -76,5 +76,6 @@ returns-3 c = sym (tried-none _ _ _ (λ i l. c .before .loop .inv .1 .1 i (omega
 pub granted-spec : {M : Type 1} → statement M
 granted-spec =
     tie.close
-    (tie.spec Inv-loop μ-loop (search needs) (search needs) (search needs) loop-holds (search needs) (search needs) (search needs) (search needs) (search needs)
-    returns (search needs) (search needs) returns-2 (search needs) (search needs) loop-again returns-3)
+    (tie.spec Inv-loop μ-loop (λ c. search needs) (λ c. search needs) (λ c. search needs) loop-holds (λ c. search needs) (λ c. search needs)
+    (λ c. search needs) (λ c. search needs) (λ c. search needs)
+    returns (λ c. search needs) (λ c. search needs) returns-2 (λ c. search needs) (λ c. search needs) loop-again returns-3)

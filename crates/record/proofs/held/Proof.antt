@@ -16,4 +16,4 @@ returns-2 c =
     rw (lt-ltb _ 64 (at-newest .before .if1 .left), ← at-newest .newest .ensures, ← c .before .words-from .ensures)
 
 pub held-spec : {M : Type 1} → statement M
-held-spec = tie.close (tie.spec returns (search needs) (search needs) (search needs) (search needs) (search needs) returns-2)
+held-spec = tie.close (tie.spec returns (λ c. search needs) (λ c. search needs) (λ c. search needs) (λ c. search needs) (λ c. search needs) returns-2)

@@ -36,5 +36,6 @@ returns-3 c =
 pub hold-spec : {M : Type 1} → statement M
 hold-spec =
     tie.close
-    (tie.spec (search needs) (search needs) (search needs) returns (search needs) returns-2 (search needs) (search needs) (search needs) (search needs)
-    (search needs) (search needs) returns-3)
+    (tie.spec (λ c. search needs) (λ c. search needs) (λ c. search needs) returns (λ c. search needs) returns-2 (λ c. search needs)
+    (λ c. search needs) (λ c. search needs) (λ c. search needs)
+    (λ c. search needs) (λ c. search needs) returns-3)

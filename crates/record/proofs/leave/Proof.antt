@@ -34,4 +34,5 @@ returns-2 c =
 
 pub leave-spec : {M : Type 1} → statement M
 leave-spec =
-    tie.close (tie.spec (search needs) (search needs) (search needs) returns (search needs) sub-state (search needs) (search needs) returns-2)
+    tie.close (tie.spec (λ c. search needs) (λ c. search needs) (λ c. search needs) returns (λ c. search needs) sub-state (λ c. search needs)
+    (λ c. search needs) returns-2)

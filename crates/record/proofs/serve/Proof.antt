@@ -45,6 +45,8 @@ returns-6 c = out (c .before .before .before .before .before) _ _ (rw (c .before
 pub serve-spec : {M : Type 1} → statement M
 serve-spec =
     tie.close
-    (tie.spec (search needs) (search needs) (search needs) (search needs) (search needs) (search needs) (search needs) (search needs) (search needs)
-    (search needs) (search needs) (search needs) (search needs) (search needs) (search needs) (search needs) returns returns-2 returns-3 returns-4 returns-5
+    (tie.spec (λ c. search needs) (λ c. search needs) (λ c. search needs) (λ c. search needs) (λ c. search needs) (λ c. search needs)
+    (λ c. search needs) (λ c. search needs) (λ c. search needs)
+    (λ c. search needs) (λ c. search needs) (λ c. search needs) (λ c. search needs) (λ c. search needs) (λ c. search needs) (λ c. search needs)
+    returns returns-2 returns-3 returns-4 returns-5
     returns-6)

@@ -7,4 +7,4 @@ returns : tie.Need-returns
 returns c = rw (c .before .frame-from .ensures)
 
 pub signer-spec : {M : Type 1} → statement M
-signer-spec = tie.close (tie.spec (search needs) (search needs) (search needs) returns)
+signer-spec = tie.close (tie.spec (λ c. search needs) (λ c. search needs) (λ c. search needs) returns)

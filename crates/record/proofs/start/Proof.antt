@@ -32,5 +32,6 @@ returns c = let e : c .before .loop .t ≡ 64 = omega arith in rw e at (c .befor
 pub start-spec : {M : Type 1} → statement M
 start-spec =
     tie.close
-    (tie.spec Inv-loop μ-loop (search needs) (search needs) loop-holds (search needs) (search needs) (search needs) (search needs) (search needs) (search needs)
+    (tie.spec Inv-loop μ-loop (λ c. search needs) (λ c. search needs) loop-holds (λ c. search needs) (λ c. search needs) (λ c. search needs)
+    (λ c. search needs) (λ c. search needs) (λ c. search needs)
     loop-again returns)

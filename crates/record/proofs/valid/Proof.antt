@@ -22,4 +22,4 @@ returns-3 c =
     (c .zero-above .ensures)
 
 pub valid-spec : {M : Type 1} → statement M
-valid-spec = tie.close (tie.spec (search needs) returns (search needs) returns-2 (search needs) returns-3)
+valid-spec = tie.close (tie.spec (λ c. search needs) returns (λ c. search needs) returns-2 (λ c. search needs) returns-3)

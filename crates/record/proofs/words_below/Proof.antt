@@ -21,4 +21,4 @@ returns c =
     ∙ part-below (a .state .now) (a .from) (a .to - a .from) (a .n) (omega (arith, entry .pre .0, entry .pre .1, long (c .before .before)))
 
 pub words-below-spec : {M : Type 1} → statement M
-words-below-spec = tie.close (tie.spec (search needs) (search needs) (search needs) (search needs) (search needs) returns)
+words-below-spec = tie.close (tie.spec (λ c. search needs) (λ c. search needs) (λ c. search needs) (λ c. search needs) (λ c. search needs) returns)

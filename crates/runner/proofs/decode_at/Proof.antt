@@ -12,4 +12,4 @@ returns c =
     c .decode .ensures ∙ ap (λ (w : ℕ). reading (a .policy .now) w (a .index)) (c .before .word-at .ensures)
 
 pub decode-at-spec : {M : Type 1} → statement M
-decode-at-spec = tie.close (tie.spec (search needs) (search needs) returns)
+decode-at-spec = tie.close (tie.spec (λ c. search needs) (λ c. search needs) returns)

@@ -22,4 +22,4 @@ returns-2 c =
 pub passed-run-spec : {M : Type 1} → statement M
 passed-run-spec =
     tie.close
-    (tie.spec (search needs) returns (search needs) frame-run-requires (search needs) returns-2)
+    (tie.spec (λ c. search needs) returns (λ c. search needs) frame-run-requires (λ c. search needs) returns-2)

@@ -19,4 +19,4 @@ returns-2 c =
 
 pub record-run-spec : {M : Type 1} → statement M
 record-run-spec =
-    tie.close (tie.spec (search needs) returns record-words-requires (search needs) returns-2)
+    tie.close (tie.spec (λ c. search needs) returns record-words-requires (λ c. search needs) returns-2)

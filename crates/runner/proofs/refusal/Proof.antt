@@ -42,4 +42,4 @@ returns-4 c =
     rw (eq-eqb _ 0 (valid (c .before .before)), even (c .before), enough)
 
 pub refusal-spec : {M : Type 1} → statement M
-refusal-spec = tie.close (tie.spec (search needs) returns returns-2 returns-3 returns-4)
+refusal-spec = tie.close (tie.spec (λ c. search needs) returns returns-2 returns-3 returns-4)

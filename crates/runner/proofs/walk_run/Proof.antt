@@ -19,4 +19,4 @@ returns-2 c =
 
 pub walk-run-spec : {M : Type 1} → statement M
 walk-run-spec =
-    tie.close (tie.spec (search needs) returns walk-words-requires (search needs) returns-2)
+    tie.close (tie.spec (λ c. search needs) returns walk-words-requires (λ c. search needs) returns-2)

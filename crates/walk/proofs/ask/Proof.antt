@@ -26,4 +26,4 @@ returns-2 c =
     (gives (c .verdict .ensures) refl)
 
 pub ask-spec : {M : Type 1} → statement M
-ask-spec = tie.close (tie.spec (search needs) (search needs) (search needs) returns (search needs) (search needs) returns-2)
+ask-spec = tie.close (tie.spec (λ c. search needs) (λ c. search needs) (λ c. search needs) returns (λ c. search needs) (λ c. search needs) returns-2)

@@ -11,4 +11,4 @@ returns-2 : tie.Need-returns-2
 returns-2 c = rw (ne-eqb _ 0 (c .if1 .left))
 
 pub first-marks-spec : {M : Type 1} → statement M
-first-marks-spec = tie.close (tie.spec (search needs) returns returns-2)
+first-marks-spec = tie.close (tie.spec (λ c. search needs) returns returns-2)

@@ -14,4 +14,4 @@ returns-2 c =
     c .frame-at .ensures ∙ rw deep (place-in _ _ _ (rw deep at (c .before .if1 .left)))
 
 pub frame-spec : {M : Type 1} → statement M
-frame-spec = tie.close (tie.spec (search needs) returns (search needs) (search needs) (search needs) returns-2)
+frame-spec = tie.close (tie.spec (λ c. search needs) returns (λ c. search needs) (λ c. search needs) (λ c. search needs) returns-2)

@@ -37,13 +37,13 @@ pub leave-spec : {M : Type 1} → statement M
 leave-spec =
     tie.close
     (tie.spec
-    (search needs)
-    (search needs)
-    (search needs)
+    (λ c. search needs)
+    (λ c. search needs)
+    (λ c. search needs)
     returns
     sub-set-frame
-    (search needs)
+    (λ c. search needs)
     sub-state
-    (search needs)
-    (search needs)
+    (λ c. search needs)
+    (λ c. search needs)
     returns-2)

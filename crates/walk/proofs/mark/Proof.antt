@@ -44,14 +44,14 @@ pub mark-spec : {M : Type 1} → statement M
 mark-spec =
     tie.close
     (tie.spec
-    (search needs)
-    (search needs)
-    (search needs)
+    (λ c. search needs)
+    (λ c. search needs)
+    (λ c. search needs)
     returns
     sub-frame-at
-    (search needs)
-    (search needs)
+    (λ c. search needs)
+    (λ c. search needs)
     sub-set-frame
-    (search needs)
-    (search needs)
+    (λ c. search needs)
+    (λ c. search needs)
     returns-2)

@@ -55,5 +55,6 @@ returns-5 c =
 pub operate-spec : {M : Type 1} → statement M
 operate-spec =
     tie.close
-    (tie.spec (search needs) returns (search needs) returns-2 (search needs) (search needs) (search needs) (search needs) returns-3 (search needs) returns-4
+    (tie.spec (λ c. search needs) returns (λ c. search needs) returns-2 (λ c. search needs) (λ c. search needs) (λ c. search needs)
+    (λ c. search needs) returns-3 (λ c. search needs) returns-4
     returns-5)

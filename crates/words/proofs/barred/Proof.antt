@@ -30,4 +30,4 @@ returns-2 : tie.Need-returns-2
 returns-2 c = c .framed .ensures ∙ other _ _ (c .before .match .keys2)
 
 pub barred-spec : {M : Type 1} → statement M
-barred-spec = tie.close (tie.spec (search needs) (search needs) (search needs) returns returns-2)
+barred-spec = tie.close (tie.spec (λ c. search needs) (λ c. search needs) (λ c. search needs) returns returns-2)

@@ -40,4 +40,4 @@ returns-4 c =
     )
 
 pub decode-spec : {M : Type 1} → statement M
-decode-spec = tie.close (tie.spec returns (search needs) returns-2 (search needs) returns-3 (search needs) returns-4)
+decode-spec = tie.close (tie.spec returns (λ c. search needs) returns-2 (λ c. search needs) returns-3 (λ c. search needs) returns-4)

@@ -38,4 +38,4 @@ returns-6 c =
 
 pub named-spec : {M : Type 1} → statement M
 named-spec =
-    tie.close (tie.spec (search needs) (search needs) returns returns-2 returns-3 returns-4 returns-5 returns-6)
+    tie.close (tie.spec (λ c. search needs) (λ c. search needs) returns returns-2 returns-3 returns-4 returns-5 returns-6)

@@ -39,4 +39,4 @@ returns-3 c =
     c .unless2 .ensures ∙ aims _ _ (c .before .before .before .args .word) (ne-eqb _ _ (c .before .before .if1 .left)) (ne-eqb _ _ (c .before .if2 .left))
 
 pub outside-word-spec : {M : Type 1} → statement M
-outside-word-spec = tie.close (tie.spec (search needs) (search needs) returns returns-2 (search needs) (search needs) returns-3)
+outside-word-spec = tie.close (tie.spec (λ c. search needs) (λ c. search needs) returns returns-2 (λ c. search needs) (λ c. search needs) returns-3)

@@ -31,12 +31,12 @@ word-at-spec =
     tie.close
     (tie.spec
     returns
-    (search needs)
-    (search needs)
+    (λ c. search needs)
+    (λ c. search needs)
     cast-high
-    (search needs)
-    (search needs)
-    (search needs)
+    (λ c. search needs)
+    (λ c. search needs)
+    (λ c. search needs)
     cast-low
     mul-result
     add-result

@@ -7,4 +7,4 @@ returns : tie.Need-returns
 returns c = rw (← c .verdict-byte .ensures)
 
 pub verdict-spec : {M : Type 1} → statement M
-verdict-spec = tie.close (tie.spec (search needs) returns)
+verdict-spec = tie.close (tie.spec (λ c. search needs) returns)

@@ -13,4 +13,4 @@ returns c =
     c .has .ensures ∙ ap (λ (w : ℕ). bit w (a .target)) (c .before .granted .ensures) ∙ granted-bit (a .policy .now) (a .self) (a .target)
 
 pub check-spec : {M : Type 1} → statement M
-check-spec = tie.close (tie.spec (search needs) (search needs) returns)
+check-spec = tie.close (tie.spec (λ c. search needs) (λ c. search needs) returns)

@@ -7,4 +7,4 @@ returns : tie.Need-returns
 returns c = rw (c .revert .ensures, c .before .without .ensures)
 
 pub disable-spec : {M : Type 1} → statement M
-disable-spec = tie.close (tie.spec (search needs) (search needs) returns)
+disable-spec = tie.close (tie.spec (λ c. search needs) (λ c. search needs) returns)

@@ -7,4 +7,4 @@ returns : tie.Need-returns
 returns c = rw (c .with .ensures)
 
 pub enable-spec : {M : Type 1} → statement M
-enable-spec = tie.close (tie.spec (search needs) returns)
+enable-spec = tie.close (tie.spec (λ c. search needs) returns)

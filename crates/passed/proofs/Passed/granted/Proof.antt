@@ -7,4 +7,4 @@ returns : tie.Need-returns
 returns c = rw (c .row .ensures)
 
 pub granted-spec : {M : Type 1} → statement M
-granted-spec = tie.close (tie.spec (search needs) returns)
+granted-spec = tie.close (tie.spec (λ c. search needs) returns)

@@ -7,4 +7,4 @@ returns : tie.Need-returns
 returns c = rw (c .without .ensures)
 
 pub revert-spec : {M : Type 1} → statement M
-revert-spec = tie.close (tie.spec (search needs) returns)
+revert-spec = tie.close (tie.spec (λ c. search needs) returns)
