@@ -360,6 +360,54 @@ fn run(p: &Policy, w: &Walk, trace: &[u8], room: u64) {
     write(PASSED, p, w, 0, trace, room);
 }
 
+// Whether a command says what stands: a policy, a state, a figure. It then stands as the command's values say.
+fn stated(
+    list: &[u64; LIST_MOST],
+    count: usize,
+    p: &mut Policy,
+    w: &mut Walk,
+    r: &mut Record,
+    s: &mut [u64; 4],
+    n: &mut u64,
+) -> bool {
+    match list[0] {
+        POLICY => set(p, list, count),
+        WALK => set(w, list, count),
+        RECORD => set(r, list, count),
+        PASSED => set(s, list, count),
+        ROOM | TARGET => {
+            *n = single(list, count);
+        }
+        _ => {
+            return false;
+        }
+    }
+    true
+}
+
+// A command that asks something of what stands, with its one value or its bytes, and the figure said before.
+fn asked(
+    word: u64,
+    one: u64,
+    bytes: &[u8],
+    p: &mut Policy,
+    w: &mut Walk,
+    r: &mut Record,
+    s: &mut [u64; 4],
+    n: u64,
+) {
+    match word {
+        AFTER | WALKS | RECORDS => steps(word, p, w, r, bytes),
+        READ => read(bytes, p),
+        RUN => run(p, w, bytes, n),
+        STEPS => write(STEPS, p, w, n, bytes, 0),
+        WRITE => write(WRITE, p, w, 0, bytes, one),
+        DERIVE => write(DERIVE, p, w, n, bytes, one),
+        CALL | ENABLE | DISABLE | REVERT | CHECK => pass(word, p, s, one),
+        _ => unknown(),
+    }
+}
+
 // A command: a space, its word, and its list. Room and target are one number, the last that was said.
 fn obey(text: &[u8], p: &mut Policy, w: &mut Walk, r: &mut Record, s: &mut [u64; 4], n: &mut u64) {
     let mut list = [0u64; LIST_MOST];
@@ -369,25 +417,17 @@ fn obey(text: &[u8], p: &mut Policy, w: &mut Walk, r: &mut Record, s: &mut [u64;
         unknown();
         return;
     }
-    let word = list[0];
-    let one = single(&list, count);
-    let bytes = &space[1..count];
-    match word {
-        POLICY => set(p, &list, count),
-        WALK => set(w, &list, count),
-        RECORD => set(r, &list, count),
-        PASSED => set(s, &list, count),
-        ROOM | TARGET => {
-            *n = one;
-        }
-        AFTER | WALKS | RECORDS => steps(word, p, w, r, bytes),
-        READ => read(bytes, p),
-        RUN => run(p, w, bytes, *n),
-        STEPS => write(STEPS, p, w, *n, bytes, 0),
-        WRITE => write(WRITE, p, w, 0, bytes, one),
-        DERIVE => write(DERIVE, p, w, *n, bytes, one),
-        CALL | ENABLE | DISABLE | REVERT | CHECK => pass(word, p, s, one),
-        _ => unknown(),
+    if !stated(&list, count, p, w, r, s, n) {
+        asked(
+            list[0],
+            single(&list, count),
+            &space[1..count],
+            p,
+            w,
+            r,
+            s,
+            *n,
+        );
     }
 }
 
