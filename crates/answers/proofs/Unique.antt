@@ -7,25 +7,26 @@ use Rattle.answers.specs.declared.Answer.{Answer}
 use Rattle.answers.specs.declared.Report.{Report}
 use Rattle.answers.specs.Account.{Account, Reports}
 use Rattle.answers.specs.Answer.{Moved, Gives, Operated}
+use Rattle.answers.specs.contracts as contracts
 use Rattle.answers.proofs.Answer.refused as refused
 use Rattle.answers.proofs.Answer.done as done
 use Rattle.answers.proofs.Answer.verdict as verdict
-use Rattle.answers.proofs.verdict_byte as verdict-byte
+use Rattle.answers.proofs.verdict_byte as verdict_byte
 use Rattle.answers.proofs.unless as unless
 
-pub refused_unique : Fixes refused.ended refused.Reads.Post
+pub refused_unique : Fixes contracts.Answer.refused.ended refused.Reads.Post
 refused_unique _ _ _ _ _ _ = alone
 
-pub done_unique : Fixes done.ended done.Reads.Post
+pub done_unique : Fixes contracts.Answer.done.ended done.Reads.Post
 done_unique _ _ _ _ _ _ = alone
 
-pub verdict_unique : Fixes verdict.ended verdict.Reads.Post
+pub verdict_unique : Fixes contracts.Answer.verdict.ended verdict.Reads.Post
 verdict_unique _ _ _ _ _ _ = alone
 
-pub verdict_byte_unique : Fixes verdict-byte.ended verdict-byte.Reads.Post
+pub verdict_byte_unique : Fixes contracts.verdict_byte.ended verdict_byte.Reads.Post
 verdict_byte_unique _ _ _ _ _ _ = alone
 
-pub unless_unique : Fixes unless.ended unless.Reads.Post
+pub unless_unique : Fixes contracts.unless.ended unless.Reads.Post
 unless_unique _ _ _ _ _ _ = alone
 
 -- for every function that reports: the report and what is left in the lent buffer, which is handed over at its place among the parameters

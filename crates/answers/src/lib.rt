@@ -1,4 +1,6 @@
 // Refusals by name, the answer to one operation, the report of a run. What they mean stands in specs/.
+#![tactic(auto)]
+
 ghost use Rattle.std.specs.Prelude.{◌≡◌, ◌%◌};
 ghost use Rattle.answers.specs.Numbers.{unless};
 ghost use Rattle.answers.specs.Answer.{verdict_byte};

@@ -1,4 +1,5 @@
 // What the definitions and the code both name of a stack.
+#![tactic(auto)]
 
 // What the walk reads of a frame: its signer, and its marks, a bit for each target.
 #[derive(Drop)]

@@ -3,6 +3,7 @@ use mathlib.Core.Path.{◌≡◌, refl, sym, ◌∙◌}
 use contract.Lifetimes.{Lfts}
 use denote.Triple.Clauses.{Ended, Lasts, AtExit, at_exit}
 use denote.Triple.Entry.{Args, Res}
+use Rattle.bits.specs.contracts as contracts
 use Rattle.bits.proofs.has as has
 use Rattle.bits.proofs.with as with
 use Rattle.bits.proofs.without as without
@@ -28,23 +29,23 @@ one_result p q = p ∙ sym q
 pub alone {ℓ} : {A B : Type ℓ} {x r s : A} {w : B} → r ≡ x → s ≡ x → (r ≡ s) × (w ≡ w)
 alone p q = (one_result p q, refl)
 
-pub has_unique : Fixes has.ended has.Reads.Post
+pub has_unique : Fixes contracts.has.ended has.Reads.Post
 has_unique _ _ _ _ _ _ = alone
 
-pub with_unique : Fixes with.ended with.Reads.Post
+pub with_unique : Fixes contracts.with.ended with.Reads.Post
 with_unique _ _ _ _ _ _ = alone
 
-pub without_unique : Fixes without.ended without.Reads.Post
+pub without_unique : Fixes contracts.without.ended without.Reads.Post
 without_unique _ _ _ _ _ _ = alone
 
-pub meet_unique : Fixes meet.ended meet.Reads.Post
+pub meet_unique : Fixes contracts.meet.ended meet.Reads.Post
 meet_unique _ _ _ _ _ _ h k = alone h.exact k.exact
 
-pub fits_unique : Fixes fits.ended fits.Reads.Post
+pub fits_unique : Fixes contracts.fits.ended fits.Reads.Post
 fits_unique _ _ _ _ _ _ = alone
 
-pub all_fit_unique : Fixes all_fit.ended all_fit.Reads.Post
+pub all_fit_unique : Fixes contracts.all_fit.ended all_fit.Reads.Post
 all_fit_unique _ _ _ _ _ _ = alone
 
-pub ones_unique : Fixes ones.ended ones.Reads.Post
+pub ones_unique : Fixes contracts.ones.ended ones.Reads.Post
 ones_unique _ _ _ _ _ _ = alone

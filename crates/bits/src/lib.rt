@@ -1,4 +1,6 @@
 // One bit of a 64-bit word: a word is a set of the numbers 0 to 63.
+#![tactic(auto)]
+
 ghost use Rattle.std.specs.Prelude.{◌≡◌};
 ghost use Rattle.bits.specs.Bit.{bit, with_bit, without_bit, Meets, below, all_below, lowest};
 

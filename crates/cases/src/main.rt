@@ -1,6 +1,8 @@
 // Document 01's cases on both sides, run: reads them, one a line, and prints each with what became of it, by the functions that
 // a host calls. A line is a name, ` | ` and commands parted by `;`, each a word and its list: `call 3 | room 1; run 03 00`. A
 // list is decimal numbers, or bytes of two hexadecimal digits; `x62` after a value says that it stands 62 times in all.
+#![tactic(auto)]
+
 ghost use Rattle.std.specs.Prelude.{◌+◌, ◌-◌, ◌≤◌, length};
 
 use galmuvesh::*;

@@ -1,4 +1,6 @@
 // Derivations over a policy, a walk state and a target: the checker, which goes by the steps alone, and the writer.
+#![tactic(auto)]
+
 ghost use Rattle.std.specs.Prelude.{◌≡◌, true, false, cond, not, ◌&&◌, ◌||◌, List, [], ◌+◌, ◌*◌, ◌≤◌, ◌<◌, eqb, take, length, replicate};
 ghost use Rattle.std.proofs.Math.Option.{some, none};
 ghost use Rattle.std.proofs.lemmas.List.Edits.{sets};

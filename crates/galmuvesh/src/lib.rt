@@ -1,5 +1,7 @@
 // The C boundary: one function for each line of include/galmuvesh.h, thin over the crates below. An array crosses as a plain
 // pointer, a slice as a pointer and then a length.
+#![tactic(auto)]
+
 ghost use Rattle.std.specs.Prelude.{◌≡◌, true, false, length};
 ghost use Rattle.answers.specs.Account.{Reports, Tells};
 ghost use Rattle.words.specs.declared.Operation.TheVariants.{Call, Enable, Disable, Revert};

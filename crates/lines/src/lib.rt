@@ -1,4 +1,6 @@
 // The text of a listing: its lines, and the pages that a buffer of any size takes of them.
+#![tactic(auto)]
+
 ghost use Rattle.std.specs.Prelude.{◌≡◌, ◌+◌, ◌≤◌, length, take, get_or};
 ghost use Rattle.lines.specs.Text.{decimal, item, start, verdict};
 ghost use Rattle.lines.specs.Text.{policy_line, check_line, end_line, refused_line, last_line, word_line};

@@ -1,4 +1,6 @@
 // The listing program: reads a policy followed by a trace, and prints what became of each check.
+#![tactic(auto)]
+
 use answers::Report;
 use libc::{STDIN_FILENO, STDOUT_FILENO};
 use policy::Policy;

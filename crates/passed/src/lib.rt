@@ -1,4 +1,6 @@
 // The passed state: what a frame needs to know of its callers, a bit for each target. It goes down with a call as an argument.
+#![tactic(auto)]
+
 ghost use Rattle.std.specs.Prelude.{◌≡◌};
 ghost use Rattle.passed.specs.Fits.{nothing_in, bits_fit, fits};
 ghost use Rattle.passed.specs.Does.{refused_by, granted_of, call_of, enable_of, disable_of, revert_of, check_of};

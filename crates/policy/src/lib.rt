@@ -1,4 +1,6 @@
 // The policy value: what it says, whether it is valid, and its one byte form.
+#![tactic(auto)]
+
 ghost use Rattle.std.specs.Prelude.{◌≡◌, true, ◌+◌, ◌-◌, ◌*◌, ◌≤◌, length, get_or, take, drop};
 ghost use Rattle.std.proofs.lemmas.List.Edits.{sets};
 ghost use Rattle.bits.specs.Bit.{below};

@@ -1,4 +1,6 @@
 // The belief record: for each frame and target, which chain lengths are held, one bit of a word for each length.
+#![tactic(auto)]
+
 ghost use Rattle.std.specs.Prelude.{◌≡◌, cond, ◌+◌, ◌-◌, ◌≤◌, ◌<◌, ltb};
 ghost use Rattle.answers.specs.Answer.{done, Gives};
 ghost use Rattle.words.specs.declared.Operation.TheVariants.{Call, Check};

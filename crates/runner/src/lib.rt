@@ -1,4 +1,6 @@
 // A trace from a fresh start, by each engine.
+#![tactic(auto)]
+
 ghost use Rattle.std.specs.Prelude.{◌≡◌, true, false, [], length};
 ghost use Rattle.answers.specs.Account.{Reports};
 ghost use Rattle.beliefs.specs.Trace.{step, run_refusal, run};

@@ -1,4 +1,6 @@
 // The walk: frames with marks in a lent state, the operations on them in place, and the check from newest to oldest.
+#![tactic(auto)]
+
 ghost use Rattle.std.specs.Prelude.{◌≡◌, cond, eqb, get_or};
 ghost use Rattle.words.specs.declared.Operation.TheVariants.{Call, Check};
 ghost use Rattle.answers.specs.Answer.{done, Gives};

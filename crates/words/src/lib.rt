@@ -1,4 +1,6 @@
 // Operation words: what a word of a trace says, and what refuses an operation.
+#![tactic(auto)]
+
 ghost use Rattle.std.specs.Prelude.{◌≡◌};
 ghost use Rattle.words.specs.Words.{operation_of, stray_in, outside, framed, deeper, barred, decoded, number_of, word_at};
 
