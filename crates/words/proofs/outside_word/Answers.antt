@@ -1,5 +1,4 @@
 -- Call looks at the signer, return at neither, every other operation at the target.
-use borrow.Author.Rules.{rules}
 use borrow.Author.Tests.{eq-eqb, ne_eqb}
 use mathlib.Core.Path.{◌≡◌, refl, ◌∙◌}
 use mathlib.Core.Bool.{Bool, true, false, cond}
@@ -8,8 +7,7 @@ use lib.Dec.{eqb, ltb}
 use Rattle.answers.specs.Numbers.{no_target, unless}
 use Rattle.words.specs.declared.Operation.TheVariants.{Enable, Disable, Revert, Check}
 use Rattle.words.specs.Words.{word_operation, word_target, operation_of, outside}
-use Rattle.words.proofs.outside_word.Statement.{statement}
-use Rattle.words.proofs.outside_word.Tie as tie
+use Rattle.words.proofs.outside_word.Goals as goal
 
 -- whichever of the last four it is
 aims : (s n w : ℕ) → eqb (word_operation w) 0 ≡ false → eqb (word_operation w) 1 ≡ false
@@ -26,17 +24,14 @@ aims s n w a b = rw (a, b) (go (eqb (word_operation w) 2) (eqb (word_operation w
     go false false true = refl
     go false false false = refl
 
-returns : tie.Need-returns
+pub returns-then-number-eq0 : goal.returns-then-number-eq0
 unfolding outside operation_of
-returns c = rw (eq-eqb _ _ c.before.if1.true) c.unless.ensures
+returns-then-number-eq0 c = rw (eq-eqb _ _ c.if-number-eq0.true) c.unless.ensures
 
-returns-2 : tie.Need-returns-2
+pub returns-then-number-eq1 : goal.returns-then-number-eq1
 unfolding outside operation_of
-returns-2 c = rw (ne_eqb _ _ c.before.if1.false, eq-eqb _ _ c.if2.true)
+returns-then-number-eq1 c = rw (ne_eqb _ _ c.if-number-eq0.false, eq-eqb _ _ c.if-number-eq1.true)
 
-returns-3 : tie.Need-returns-3
-returns-3 c =
-    c.unless2.ensures ∙ aims _ _ c.before.before.before.args.word (ne_eqb _ _ c.before.before.if1.false) (ne_eqb _ _ c.before.if2.false)
-
-pub outside-word-spec : {M : Type 1} → statement M
-outside-word-spec = tie.close (tie.spec (λ c. search rules) (λ c. search rules) returns returns-2 (λ c. search rules) (λ c. search rules) returns-3)
+pub returns : goal.returns
+returns c =
+    c.unless-2.ensures ∙ aims _ _ c.args.word (ne_eqb _ _ c.if-number-eq0.false) (ne_eqb _ _ c.if-number-eq1.false)
