@@ -37,14 +37,14 @@ pub const BAD_POLICY: u8 = 13;
 pub const BAD_STATE: u8 = 14;
 
 // What an engine answers to one operation: 0 and the answer byte, or the number for no and 0.
-#[derive(Drop)]
+#[derive(Clone, Copy)]
 pub struct Answer {
     pub number: u8,
     pub byte: u8,
 }
 
 // What a run, a writer or a checker reports.
-#[derive(Drop)]
+#[derive(Clone, Copy)]
 pub struct Report {
     pub number: u8,
     pub figure: u64,

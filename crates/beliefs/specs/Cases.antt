@@ -1,6 +1,6 @@
 -- "Cases on both sides": P1 to P10, from bytes, proved together by computing the definitions; and the orders of refusal.
 use Rattle.std.specs.Prelude.{◌≡◌, refl, true, cond, List, [], ◌∷◌, map, ℕ, eqb, replicate}
-use Rattle.std.proofs.Math.Option.{Option·elim}
+use Rattle.std.proofs.Math.Option.{Option-elim}
 use Rattle.bits.specs.Bit.{bit, with_bit, without_bit, below, lowest}
 use Rattle.answers.specs.Answer.{verdict_byte}
 use Rattle.answers.specs.Account.{Account, told}
@@ -107,7 +107,7 @@ cases =
 
 pub proved : map (λ (c : Case). found c.policy c.trace c.asked) cases ≡ map (λ (c : Case). c.expected) cases
 unfolding run run_refusal run_from state_after does called enable disable revert granted walk decoded operation_of stray_in outside barred permits refusal valid
-    row_fits each mirrored row_of rows_of read_number value_read bit with_bit without_bit below lowest derived ours judged judge follow may_take Option·elim
+    row_fits each mirrored row_of rows_of read_number value_read bit with_bit without_bit below lowest derived ours judged judge follow may_take Option-elim
 proved = refl
 
 -- the orders of refusal. Reading a policy: a header spare bit before too few and before left over, too few and left over before padding; then padding
@@ -140,5 +140,5 @@ pub refused_in_order : map (λ (a : Account). a.number) (
     )
     ≡ (13 ∷ 9 ∷ 13 ∷ 1 ∷ 9 ∷ 6 ∷ 7 ∷ 12 ∷ 9 ∷ 6 ∷ 7 ∷ 10 ∷ 11 ∷ [])
 unfolding run run_refusal run_from state_after does called enable disable revert granted walk decoded operation_of stray_in outside barred permits refusal valid
-    row_fits each mirrored row_of rows_of value_read writing bit with_bit without_bit below lowest derived ours judged judge follow may_take Option·elim
+    row_fits each mirrored row_of rows_of value_read writing bit with_bit without_bit below lowest derived ours judged judge follow may_take Option-elim
 refused_in_order = refl

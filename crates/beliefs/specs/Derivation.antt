@@ -1,7 +1,7 @@
 -- "Derivations", over a policy, the marked frames of a walk state (newest first) and a target T.
 use Rattle.std.specs.Prelude.{Bool, true, false, cond, not, ◌&&◌, ◌||◌, List, [], ◌∷◌, ◌++◌, map, ℕ, zero, suc, ◌+◌, ◌-◌, ◌*◌, ◌/◌, ◌%◌, eqb, leb, length, get_or, take, replicate}
 use Rattle.std.proofs.Math.Option
-use Rattle.std.proofs.Math.Option.{Option, some, none, Option·elim}
+use Rattle.std.proofs.Math.Option.{Option, some, none, Option-elim}
 use Rattle.bits.specs.Bit.{bit}
 use Rattle.answers.specs.Numbers.{not_allowed, not_empty, forbidden, unless, first}
 use Rattle.answers.specs.Account.{Account, told, short_of, barring}
@@ -77,7 +77,7 @@ follow p ms t b es =
 -- accepted when every step is allowed and, at the end, a chain was taken and is empty: 10 with the step's index, 11
 unfoldable pub judge : Policy → List Marked → Target → Bool → ℕ → List Entry → List ℕ → Account
 judge p ms t took i es [] = cond (took && empty es) (told 0 i) (told not_empty 0)
-judge p ms t took i es (b ∷ bs) = Option·elim (follow p ms t b es) (told not_allowed i) (λ (l : List Entry). judge p ms t (took || eqb (rule b) 0) (suc i) l bs)
+judge p ms t took i es (b ∷ bs) = Option-elim (follow p ms t b es) (told not_allowed i) (λ (l : List Entry). judge p ms t (took || eqb (rule b) 0) (suc i) l bs)
 
 -- before any step is looked at or written, what refuses the check itself: 6, 7
 abbrev pub unasked : Policy → List Marked → Target → ℕ

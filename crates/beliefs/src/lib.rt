@@ -2,7 +2,7 @@
 #![tactic(auto)]
 
 // What the walk reads of a frame: its signer, and its marks, a bit for each target.
-#[derive(Drop)]
+#[derive(Clone, Copy)]
 pub struct Marked {
     pub signer: u64,
     pub enabled: u64,
@@ -10,7 +10,7 @@ pub struct Marked {
 }
 
 // What the walk finds: its verdict, and the frames looked at.
-#[derive(Drop)]
+#[derive(Clone, Copy)]
 pub struct Seen {
     pub granted: bool,
     pub looked: u64,

@@ -20,7 +20,7 @@ use walk::State;
 use words::Operation;
 
 // The chain at a step: whether one was taken, its length, and a bit for each place that has spoken and for each that is T.
-#[derive(Drop)]
+#[derive(Clone, Copy)]
 struct Chain {
     taken: bool,
     len: u8,
@@ -29,7 +29,7 @@ struct Chain {
 }
 
 // What a step makes of a chain.
-#[derive(Drop)]
+#[derive(Clone, Copy)]
 enum Turn {
     To(Chain),
     Refused,

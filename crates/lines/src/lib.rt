@@ -15,7 +15,7 @@ use words::{Decoded, Operation};
 pub const LINE_MOST: usize = 80;
 
 // Where the next page begins, and how many bytes this one has.
-#[derive(Drop)]
+#[derive(Clone, Copy)]
 pub struct Filled {
     pub next: usize,
     pub len: usize,

@@ -17,7 +17,7 @@ const DONE: u8 = 0;
 
 // What a frame knows. `own`: what it enabled itself, or a full start handed it, and it has not reverted or disabled since;
 // `callers`: what its callers would have been granted at the call, and it has not disabled since.
-#[derive(Drop)]
+#[derive(Clone, Copy)]
 pub struct Passed {
     pub depth: u64,
     pub signer: u64,
@@ -26,7 +26,7 @@ pub struct Passed {
 }
 
 // What an operation leads to: the same frame with an answer byte, the callee, the caller, or the number for no.
-#[derive(Drop)]
+#[derive(Clone, Copy)]
 pub enum Next {
     Stay(Passed, u8),
     Down(Passed),

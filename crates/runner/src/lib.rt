@@ -135,7 +135,7 @@ pub fn record_run(policy: &Policy, trace: &[u8], answers: &mut [u8]) -> Report
 }
 
 // Where a frame's run was left: past its return, at the trace's end, or at a refused word.
-#[derive(Drop)]
+#[derive(Clone, Copy)]
 struct Left {
     at: usize,
     number: u8,

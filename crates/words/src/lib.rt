@@ -8,7 +8,7 @@ ghost use Rattle.words.specs.Words.{operation_of, stray_in, outside, framed, dee
 pub const DEPTH_MOST: u64 = 63;
 
 // One operation, with the signer or the target that it uses.
-#[derive(Drop)]
+#[derive(Clone, Copy)]
 pub enum Operation {
     Call(u8),
     Return,
@@ -19,14 +19,14 @@ pub enum Operation {
 }
 
 // An operation and the index of its word in the trace.
-#[derive(Drop)]
+#[derive(Clone, Copy)]
 pub struct Word {
     pub op: Operation,
     pub index: usize,
 }
 
 // What a word says: an operation, or the number that refuses it.
-#[derive(Drop)]
+#[derive(Clone, Copy)]
 pub enum Decoded {
     Word(Word),
     Refused(u8),
