@@ -1,5 +1,6 @@
 -- Each promise fixes its result: of two results that both keep it, one is the other. Assumes nothing.
 use Rattle.bits.proofs.Unique.{Fixes, alone}
+use Rattle.passed.specs.contracts as contracts
 use Rattle.passed.proofs.Passed.fresh as fresh
 use Rattle.passed.proofs.Passed.call as call
 use Rattle.passed.proofs.Passed.enable as enable
@@ -10,29 +11,29 @@ use Rattle.passed.proofs.serve as serve
 use Rattle.passed.proofs.valid as valid
 use Rattle.passed.proofs.refusal as refusal
 
-pub fresh_unique : Fixes fresh.ended fresh.Reads.Post
+pub fresh_unique : Fixes contracts.Passed.fresh.ended fresh.Reads.Post
 fresh_unique _ _ _ _ _ _ h k = alone h.exact k.exact
 
-pub call_unique : Fixes call.ended call.Reads.Post
+pub call_unique : Fixes contracts.Passed.call.ended call.Reads.Post
 call_unique _ _ _ _ _ _ = alone
 
-pub enable_unique : Fixes enable.ended enable.Reads.Post
+pub enable_unique : Fixes contracts.Passed.enable.ended enable.Reads.Post
 enable_unique _ _ _ _ _ _ = alone
 
-pub disable_unique : Fixes disable.ended disable.Reads.Post
+pub disable_unique : Fixes contracts.Passed.disable.ended disable.Reads.Post
 disable_unique _ _ _ _ _ _ = alone
 
-pub revert_unique : Fixes revert.ended revert.Reads.Post
+pub revert_unique : Fixes contracts.Passed.revert.ended revert.Reads.Post
 revert_unique _ _ _ _ _ _ = alone
 
-pub check_unique : Fixes check.ended check.Reads.Post
+pub check_unique : Fixes contracts.Passed.check.ended check.Reads.Post
 check_unique _ _ _ _ _ _ = alone
 
-pub serve_unique : Fixes serve.ended serve.Reads.Post
+pub serve_unique : Fixes contracts.serve.ended serve.Reads.Post
 serve_unique _ _ _ _ _ _ h k = alone h.exact k.exact
 
-pub valid_unique : Fixes valid.ended valid.Reads.Post
+pub valid_unique : Fixes contracts.valid.ended valid.Reads.Post
 valid_unique _ _ _ _ _ _ = alone
 
-pub refusal_unique : Fixes refusal.ended refusal.Reads.Post
+pub refusal_unique : Fixes contracts.refusal.ended refusal.Reads.Post
 refusal_unique _ _ _ _ _ _ = alone
