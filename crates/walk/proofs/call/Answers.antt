@@ -21,7 +21,7 @@ returns c =
       ← tested (goal.at.returns c).After-deeper-number,
       eq-eqb _ _ c.if-number-ne-ACCEPTED.false,
       ← c.depth-d.ensures,
-      ← c.set_frame-arg-1.ensures,
+      ← c.first_marks-enabled.ensures,
       ← c.set_frame.ensures,
     )
     (gives c.done.ensures refl)
