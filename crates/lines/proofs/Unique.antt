@@ -4,10 +4,11 @@ use mathlib.Core.List.{List}
 use Prim.Native.Nat.{ℕ}
 use Rattle.bits.proofs.Unique.{Fixes, one_result}
 use Rattle.lines.specs.Promise.{Lined}
-use Rattle.lines.proofs.policy_line as policy-line
-use Rattle.lines.proofs.check_line as check-line
+use Rattle.lines.specs.contracts as contracts
+use Rattle.lines.proofs.policy_line as policy_line
+use Rattle.lines.proofs.check_line as check_line
 use Rattle.lines.proofs.end_line as end_line
-use Rattle.lines.proofs.refused_line as refused-line
+use Rattle.lines.proofs.refused_line as refused_line
 use Rattle.lines.proofs.fill as fill
 
 -- for every function that writes a line: the bytes written, and what is left in the lent buffer, which is handed over at its place among the parameters
@@ -15,19 +16,19 @@ lined_unique {ℓ} : {W : Type ℓ} (place : List ℕ → W) {lent left other li
     → Lined r lent left line → Lined q lent other line → (r ≡ q) × (place left ≡ place other)
 lined_unique place h k = (one_result h.count k.count, λ i. place (one_result h.buffer k.buffer i))
 
-pub policy_line_unique : Fixes policy-line.ended policy-line.Reads.Post
+pub policy_line_unique : Fixes contracts.policy_line.ended policy_line.Reads.Post
 policy_line_unique _ _ _ _ _ _ = lined_unique (λ w. (tt, (w, tt)))
 
-pub check_line_unique : Fixes check-line.ended check-line.Reads.Post
+pub check_line_unique : Fixes contracts.check_line.ended check_line.Reads.Post
 check_line_unique _ _ _ _ _ _ = lined_unique (λ w. (tt, (tt, (tt, (w, tt)))))
 
-pub end_line_unique : Fixes end_line.ended end_line.Reads.Post
+pub end_line_unique : Fixes contracts.end_line.ended end_line.Reads.Post
 end_line_unique _ _ _ _ _ _ = lined_unique (λ w. (tt, (w, tt)))
 
-pub refused_line_unique : Fixes refused-line.ended refused-line.Reads.Post
+pub refused_line_unique : Fixes contracts.refused_line.ended refused_line.Reads.Post
 refused_line_unique _ _ _ _ _ _ = lined_unique (λ w. (tt, (tt, (w, tt))))
 
-pub fill_unique : Fixes fill.ended fill.Reads.Post
+pub fill_unique : Fixes contracts.fill.ended fill.Reads.Post
 fill_unique _ _ _ _ _ _ h k =
     let buffer = one_result h.buffer k.buffer in
     (λ i. record { next = one_result h.next k.next i; len = one_result h.len k.len i }, λ i. (tt, (tt, (tt, (tt, (tt, (buffer i, tt)))))))

@@ -1,0 +1,15 @@
+-- Barred at once, or the words' own account.
+use mathlib.Core.Path.{sym, ◌∙◌}
+use mathlib.Core.Bool.{true}
+use Rattle.runner.proofs.Progress.{at_once, in_the_end}
+use Rattle.runner.proofs.walk_run.Goals as goal
+
+pub returns-then-refused-ne-ACCEPTED : goal.returns-then-refused-ne-ACCEPTED
+returns-then-refused-ne-ACCEPTED c = at_once true _ _ _ _ c.refusal-refused.ensures c.if-refused-ne-ACCEPTED.true
+
+pub walk_words-requires : goal.walk_words-requires
+walk_words-requires c = sym c.refusal-refused.ensures ∙ c.if-refused-ne-ACCEPTED.false
+
+pub returns : goal.returns
+returns c =
+    in_the_end true _ _ _ (sym c.refusal-refused.ensures ∙ c.if-refused-ne-ACCEPTED.false) _ _ _ c.walk_words.ensures
