@@ -6,5 +6,5 @@ use Rattle.lines.proofs.put_check.Goals as goal
 pub returns : goal.returns
 unfolding check_line
 returns c =
-    let numbers = then c.put_item-at.ensures.0 c.put_item-at-2.ensures.0 in
-    then (then numbers c.put_verdict-at.ensures.0) c.put_item.ensures.0
+    let numbers = then c.put_item-at.ensures.puts c.put_item-at-2.ensures.puts in
+    then (then numbers c.put_verdict-at.ensures.puts) c.put_item.ensures.puts

@@ -1,11 +1,8 @@
 -- What the word is decoded to decides, and then its operation, as in the definition.
-use denote.Enum.Declared.{tag_of}
-use types.Run.{OneOf, miss}
 use mathlib.Core.Path.{◌≡◌, refl, sym, ap, ◌∙◌}
-use mathlib.Core.List.{[], ◌∷◌}
+use mathlib.Core.List.{[]}
 use Prim.Native.Nat.{ℕ}
 use lib.ListN.{get_or}
-use Rattle.words.specs.contracts.Operation.{the_type}
 use Rattle.words.specs.declared.Operation.{Operation}
 use Rattle.words.specs.declared.Operation.TheVariants.{Call, Return, Enable, Disable, Revert, Check}
 use Rattle.words.specs.declared.Decoded.{Decoded}
@@ -16,13 +13,13 @@ use Rattle.lines.proofs.put_word.Goals as goal
 use Rattle.lines.proofs.put_word.Goals.{After-decode-decoded}
 
 -- an operation that is not check
-other : (op : Operation) (i answer : ℕ) → OneOf (0 ∷ 1 ∷ 2 ∷ 3 ∷ 4 ∷ []) (tag_of the_type op) → op_line op i answer ≡ []
+other : (op : Operation) (i answer : ℕ) → ((t : ℕ) → op ≡ Check t → ⊥) → op_line op i answer ≡ []
 other (Call s) i answer h = refl
 other Return i answer h = refl
 other (Enable t) i answer h = refl
 other (Disable t) i answer h = refl
 other (Revert t) i answer h = refl
-other (Check t) i answer h = absurd (miss (0 ∷ 1 ∷ 2 ∷ 3 ∷ 4 ∷ []) 5 tt h)
+other (Check t) i answer h = absurd (h t refl)
 
 -- the line, by what the word was decoded to
 line : (c : goal.After-decode-decoded) → let a = c.args in
@@ -43,4 +40,4 @@ returns-in-Check c =
 
 pub returns-in_default-op : goal.returns-in_default-op
 returns-in_default-op c =
-    rw (line (goal.at.returns-in_default-op c).After-decode-decoded, c.in-Word.is, other _ _ _ c.in_default-op.in_default-op-own.keys2) none
+    rw (line (goal.at.returns-in_default-op c).After-decode-decoded, c.in-Word.is, other _ _ _ c.in_default-op.not-Check) none
