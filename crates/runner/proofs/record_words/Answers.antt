@@ -8,7 +8,7 @@ use Rattle.beliefs.specs.Policy.{valid}
 use Rattle.runner.proofs.Progress.{not_barred}
 use Rattle.runner.proofs.Going.{Reads, start, over, bad_word, bad_op, onward}
 use Rattle.runner.proofs.record_words.Goals as goal
-use Rattle.runner.proofs.record_words.Goals.{After-decode_at-decoded, In-Word-2, Start}
+use Rattle.runner.proofs.record_words.Goals.{After-decode_at-decoded, In-Word, Start}
 
 -- what the first tests left
 ready : (c : goal.Start) → (valid c.args.policy.now ≡ true) × (length c.args.trace.now % 2 ≡ 0) ×
@@ -18,9 +18,9 @@ ready c = not_barred true c.args.policy.now c.args.trace.now c.args.answers.now 
 more : (c : goal.After-decode_at-decoded) → 2 * c.loop-i.i + 1 < length c.args.trace.now
 more c = omega arith
 
-word : (c : goal.In-Word-2) → Reads c.args.policy.now c.args.trace.now c.loop-i.i c.in-Word.w
+word : (c : goal.In-Word) → Reads c.args.policy.now c.args.trace.now c.loop-i.i c.in-Word.w
 word c =
-    record { more = more (goal.at.In-Word-2 c).After-decode_at-decoded; word = sym c.in-Word.is ∙ c.decode_at-decoded.ensures; policy = (ready (goal.at.In-Word-2 c).Start).0 }
+    record { more = more (goal.at.In-Word c).After-decode_at-decoded; word = sym c.in-Word.is ∙ c.decode_at-decoded.ensures; policy = (ready (goal.at.In-Word c).Start).0 }
 
 pub loop-i-init : goal.loop-i-init
 loop-i-init c = (omega arith, refl, start _ _ _ _)
@@ -39,7 +39,7 @@ shape_of-answers-then-kept-ne-ACCEPTED c =
 
 pub returns-then-kept-ne-ACCEPTED : goal.returns-then-kept-ne-ACCEPTED
 returns-then-kept-ne-ACCEPTED c =
-    bad_op _ _ _ _ _ _ _ c.loop-i.invariant.2 _ (word (goal.at.returns-then-kept-ne-ACCEPTED c).In-Word-2) _ _ c.serve-kept.ensures c.if-kept-ne-ACCEPTED.true
+    bad_op _ _ _ _ _ _ _ c.loop-i.invariant.2 _ (word (goal.at.returns-then-kept-ne-ACCEPTED c).In-Word) _ _ c.serve-kept.ensures c.if-kept-ne-ACCEPTED.true
 
 pub bounds-answers-i : goal.bounds-answers-i
 bounds-answers-i c =
@@ -47,7 +47,7 @@ bounds-answers-i c =
 
 pub loop-i-preserved : goal.loop-i-preserved
 loop-i-preserved c =
-    (omega arith, simp length-set c.loop-i.invariant.1, onward _ _ _ _ _ _ _ c.loop-i.invariant.2 _ (word (goal.at.loop-i-preserved c).In-Word-2) _ _ c.serve-kept.ensures c.if-kept-ne-ACCEPTED.false)
+    (omega arith, simp length-set c.loop-i.invariant.1, onward _ _ _ _ _ _ _ c.loop-i.invariant.2 _ (word (goal.at.loop-i-preserved c).In-Word) _ _ c.serve-kept.ensures c.if-kept-ne-ACCEPTED.false)
 
 pub shape_of-answers : goal.shape_of-answers
 shape_of-answers c = c.loop-i.invariant.1
