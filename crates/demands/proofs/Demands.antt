@@ -236,13 +236,13 @@ module _ (p : Policy) (v : valid p ≡ true) where
         (accepted, a.answer ∙ rw accepted)
 
     pub one_verdict_live : (s q x : List ℕ) (kept : List (List ℕ)) → Lived by_walk p s (f ∷ r) → Lived by_record p q (f ∷ r) → PassedLived p (x ∷ kept) (f ∷ r)
-        → (lent n m k by_walk by_record by_passed : ℕ) (left left' : List ℕ)
-        → Operate by_walk p s (check_word t) lent n by_walk left → Operate by_record p q (check_word t) lent m by_record left' → Asks p x t k lent by_passed
-        → (n ≡ 0) × (m ≡ 0) × (k ≡ 0) × (by_walk ≡ verdict_byte verdict count) × (by_record ≡ verdict_byte verdict 0) × (by_passed ≡ verdict_byte verdict 0)
-    one_verdict_live s q x kept h h' h'' lent n m k by_walk by_record by_passed left left' o o' o'' =
-        let walked = walk_verdict s h lent n by_walk left o in
-        let recorded = record_verdict q h' lent m by_record left' o' in
-        let passed = passed_verdict x kept h'' lent k by_passed o'' in
+        → (lent n m k of_walk of_record of_passed : ℕ) (left left' : List ℕ)
+        → Operate by_walk p s (check_word t) lent n of_walk left → Operate by_record p q (check_word t) lent m of_record left' → Asks p x t k lent of_passed
+        → (n ≡ 0) × (m ≡ 0) × (k ≡ 0) × (of_walk ≡ verdict_byte verdict count) × (of_record ≡ verdict_byte verdict 0) × (of_passed ≡ verdict_byte verdict 0)
+    one_verdict_live s q x kept h h' h'' lent n m k of_walk of_record of_passed left left' o o' o'' =
+        let walked = walk_verdict s h lent n of_walk left o in
+        let recorded = record_verdict q h' lent m of_record left' o' in
+        let passed = passed_verdict x kept h'' lent k of_passed o'' in
         (walked.0, recorded.0, passed.0, walked.1, recorded.1, passed.1)
 
 -- "A policy has exactly one byte form, and comes back the same when written and read": bytes that are read as one value are the same bytes; what is
