@@ -105,11 +105,11 @@ derivation_write_refused p s t lent n figure left h nz = nothing_written lent le
 -- 2. "In every trace each check's verdict is the one that the belief sets of Wallach and Felten give, as document 01 condenses them. Stack walk,
 -- belief record and passed state all give it, and the walk's number of frames looked at is the definition's." In a run: `run` answers each check by
 -- `granted`, the belief sets, and by the walk's count; the three report one such account.
-pub one_verdict : (p : Policy) (trace lent : List ℕ) (n m k figure figure' figure'' : ℕ) (by_walk by_record by_passed : List ℕ)
-    → Ran true p trace lent n figure by_walk → Ran false p trace lent m figure' by_record → Ran false p trace lent k figure'' by_passed
-    → OneVerdict p trace lent (report n figure) (report m figure') (report k figure'') by_walk by_record by_passed
-one_verdict p trace lent n m k figure figure' figure'' by_walk by_record by_passed =
-    three_runs p trace lent (report n figure) (report m figure') (report k figure'') by_walk by_record by_passed
+pub one_verdict : (p : Policy) (trace lent : List ℕ) (n m k figure figure' figure'' : ℕ) (of_walk of_record of_passed : List ℕ)
+    → Ran true p trace lent n figure of_walk → Ran false p trace lent m figure' of_record → Ran false p trace lent k figure'' of_passed
+    → OneVerdict p trace lent (report n figure) (report m figure') (report k figure'') of_walk of_record of_passed
+one_verdict p trace lent n m k figure figure' figure'' of_walk of_record of_passed =
+    three_runs p trace lent (report n figure) (report m figure') (report k figure'') of_walk of_record of_passed
 
 -- On any state, however it came about: where neither 13 nor 14 refuses a word, the state pictures some stack of the definition, and the word is
 -- answered as the definition answers it there. Of four words of a passed state: they are those of no frame, or of a frame as document 01 allows one.
