@@ -4,7 +4,7 @@ PREFIX ?= /usr/local
 SECONDS ?= 600
 ARCHIVE := target/staticlib/libgalmuvesh.a
 LISTING := target/bin/listing
-SOURCES := crates.txt $(shell find crates -name '*.rt' -o -name '*.antt')
+SOURCES := crates.txt $(shell find crates -name out -prune -o \( -name '*.rt' -o -name '*.antt' \) -print)
 MAN := $(wildcard man/man1/*.1 man/man3/*.3)
 INSTALLED := include/galmuvesh.h lib/libgalmuvesh.a lib/pkgconfig/galmuvesh.pc bin/galmuvesh-listing $(MAN:%=share/%)
 
@@ -19,8 +19,8 @@ example: $(ARCHIVE) ## build and run the example host, a season in C
 	tools/x86-cc -std=c99 -O2 -Wall -Wextra -pedantic -Iinclude examples/season.c $(ARCHIVE) -o target/examples/season
 	tools/x86-run target/examples/season
 
-check: ## prove every crate that changed since it was last proved
-	rt check
+check: ## prove every crate, over what earlier checks kept
+	rt all check
 
 test: ## the gate: prove everything from nothing, try every must-fail edit, run every test
 	@bash tests/gate
@@ -34,12 +34,14 @@ soak: $(ARCHIVE) ## compare the library with the second reading from fresh seeds
 lib: $(ARCHIVE) ## the archive for C hosts on x86-64
 
 $(ARCHIVE): $(SOURCES)
-	rt staticlib galmuvesh
-	@touch $@
+	cd crates/galmuvesh_c && rt lib
+	install -D -m 644 crates/galmuvesh_c/out/libgalmuvesh_c.a $@
 
+# a program is linked where it is first run
 $(LISTING): $(SOURCES)
-	rt check listing
-	@touch $@
+	@mkdir -p target
+	cd crates/listing && rt run </dev/null >../../target/listing.log 2>&1 || { cat ../../target/listing.log; exit 1; }
+	install -D -m 755 crates/listing/out/listing $@
 
 install: $(ARCHIVE) $(LISTING) ## install under PREFIX (default /usr/local), below DESTDIR where one is given
 	install -d $(sort $(dir $(INSTALLED:%=$(DESTDIR)$(PREFIX)/%)))
@@ -54,4 +56,4 @@ uninstall: ## remove what install put there
 	rm -f $(INSTALLED:%=$(DESTDIR)$(PREFIX)/%)
 
 clean: ## remove what was made
-	rm -rf target
+	rm -rf target crates/*/out

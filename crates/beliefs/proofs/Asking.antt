@@ -171,7 +171,8 @@ module _ (p : Policy) where
   step_same op st su h = rw (alike_length st su h) (guarded_alike (AllAlike p) (λ b. b) refl h (barred (length su) op) (λ _. does_same op st su h))
 
   -- every trace: the two runs give the same answers, number and figure
-  pub asking_first : (i : ℕ) (trace : List ℕ) (st su : Stack) → AllAlike p st su → run_from (step false) p i trace st ≡ run_from (step_asking false) p i trace su
+  pub asking_first : (i : ℕ) (trace : List ℕ) (st su : Stack) → AllAlike p st su → run_from (step false) p i trace st
+      ≡ run_from (step_asking false) p i trace su
   asking_first i trace st su h =
       runs_alike (step false) (step_asking false) p (AllAlike p) (λ b. b) refl step_same i trace st su h
       ∙ ap (λ (l : List ℕ). record { number = again.number; figure = again.figure; written = l }) (map-id again.written)

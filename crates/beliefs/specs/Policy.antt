@@ -1,5 +1,6 @@
 -- "Byte forms", the policy: as a value of 35 words (start, S, N, 32 rows) and as bytes; and what refuses it and what is asked under it.
-use Rattle.std.specs.Prelude.{Bool, cond, ◌&&◌, List, [], ◌∷◌, ◌++◌, ℕ, zero, suc, ◌+◌, ◌-◌, ◌*◌, ◌/◌, ◌%◌, ◌^◌, eqb, ltb, leb, length, get_or, take, drop, replicate}
+use Rattle.std.specs.Prelude.{Bool, cond, ◌&&◌, List, [], ◌∷◌, ◌++◌, ℕ, zero, suc, ◌+◌, ◌-◌}
+use Rattle.std.specs.Prelude.{◌*◌, ◌/◌, ◌%◌, ◌^◌, eqb, ltb, leb, length, get_or, take, drop, replicate}
 use Rattle.bits.specs.Bit.{bit, below}
 use Rattle.answers.specs.Numbers.{too_few, left_over, bit_set, bad_policy, bad_state, unless, first}
 use Rattle.answers.specs.Account.{Account, short_of, barring}

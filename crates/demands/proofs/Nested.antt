@@ -155,7 +155,8 @@ module _ (p : Policy) (v : valid p ≡ true) (s : List ℕ) (st : Stack) (f : fi
   beyond : (op : Operation) → outside_of p op ≢ 0 → refused_by p (passed_in s) op ≡ outside_of p op
   beyond op nz = refusal_number p (passed_in s) op v f ∙ rw (ne_eqb _ 0 nz)
 
-  pub numbered : (op : Operation) (n : ℕ) → n ≡ refused_by p (passed_in s) op → (outside_of p op ≡ 0 → n ≡ (step false p op st).number) → Numbered (asked p op st) n
+  pub numbered : (op : Operation) (n : ℕ) → n ≡ refused_by p (passed_in s) op → (outside_of p op ≡ 0 → n ≡ (step false p op st).number)
+      → Numbered (asked p op st) n
   numbered op n e within =
       let low : n ≤ 8 = rw e (few op) in
       record { number = go (eqb (outside_of p op) 0) refl; never_13 = omega arith; never_14 = omega arith }

@@ -59,7 +59,8 @@ module _ (p : List ℕ) (ms : List Marked) (t : ℕ) (steps : List ℕ) (i : ℕ
         go took none k = refl
         go took (some l) k = cc
 
-    pub onward : (next : Chain) → some (held ms next) ≡ with_took (ch.taken || eqb (rule (get_or steps i 0)) 0) (follow p ms t (get_or steps i 0) (entries ms ch))
+    pub onward : (next : Chain) → some (held ms next)
+        ≡ with_took (ch.taken || eqb (rule (get_or steps i 0)) 0) (follow p ms t (get_or steps i 0) (entries ms ch))
         → left ≡ judge p ms t next.taken (i + 1) (entries ms next) (drop (i + 1) steps)
     unfolding Option-elim
     onward next h = rw add-one (one ∙ go (ch.taken || eqb (rule (get_or steps i 0)) 0) (follow p ms t (get_or steps i 0) (entries ms ch)) h)

@@ -1,5 +1,5 @@
-// The C boundary: one function for each line of include/galmuvesh.h, thin over the crates below. An array crosses as a plain
-// pointer, a slice as a pointer and then a length.
+// The C boundary: one function for each line of include/galmuvesh.h, thin over the crates below. galmuvesh_c exports each under
+// its own name.
 #![tactic(auto)]
 
 ghost use Rattle.std.specs.Prelude.{◌≡◌, true, false, length};
@@ -19,29 +19,26 @@ use policy::Policy;
 use words::Operation;
 
 // A passed state's words.
-const WORDS: usize = 4;
+pub const WORDS: usize = 4;
 
-type State = [u64; WORDS];
+pub type State = [u64; WORDS];
 
 // A policy from its bytes.
-#[unsafe(no_mangle)]
-pub extern "C" fn galmuvesh_policy_read(bytes: &[u8], policy: &mut Policy) -> u8
+pub fn galmuvesh_policy_read(bytes: &[u8], policy: &mut Policy) -> u8
     ensures { PolicyRead bytes.now policy.old result policy.new }
 {
     policy::read(bytes, policy)
 }
 
 // How many bytes at the front of a recording are its policy's.
-#[unsafe(no_mangle)]
-pub extern "C" fn galmuvesh_policy_cut(bytes: &[u8]) -> usize
+pub fn galmuvesh_policy_cut(bytes: &[u8]) -> usize
     ensures { result ≡ cut_at bytes.now }
 {
     policy::cut(bytes)
 }
 
 // The policy's one byte form.
-#[unsafe(no_mangle)]
-pub extern "C" fn galmuvesh_policy_write(policy: &Policy, bytes: &mut [u8], figure: &mut u64) -> u8
+pub fn galmuvesh_policy_write(policy: &Policy, bytes: &mut [u8], figure: &mut u64) -> u8
     ensures { Reports (report result figure.new) bytes.old bytes.new
         (policies.writing policy.now (length bytes.old)) }
 {
@@ -51,13 +48,7 @@ pub extern "C" fn galmuvesh_policy_write(policy: &Policy, bytes: &mut [u8], figu
 }
 
 // A trace from a fresh start, by the walk.
-#[unsafe(no_mangle)]
-pub extern "C" fn galmuvesh_walk_run(
-    policy: &Policy,
-    trace: &[u8],
-    answers: &mut [u8],
-    figure: &mut u64,
-) -> u8
+pub fn galmuvesh_walk_run(policy: &Policy, trace: &[u8], answers: &mut [u8], figure: &mut u64) -> u8
     ensures { Reports (report result figure.new) answers.old answers.new
         (run true policy.now trace.now (length answers.old)) }
 {
@@ -67,8 +58,7 @@ pub extern "C" fn galmuvesh_walk_run(
 }
 
 // The same by the belief record.
-#[unsafe(no_mangle)]
-pub extern "C" fn galmuvesh_record_run(
+pub fn galmuvesh_record_run(
     policy: &Policy,
     trace: &[u8],
     answers: &mut [u8],
@@ -83,8 +73,7 @@ pub extern "C" fn galmuvesh_record_run(
 }
 
 // The same by the passed state.
-#[unsafe(no_mangle)]
-pub extern "C" fn galmuvesh_passed_run(
+pub fn galmuvesh_passed_run(
     policy: &Policy,
     trace: &[u8],
     answers: &mut [u8],
@@ -99,8 +88,7 @@ pub extern "C" fn galmuvesh_passed_run(
 }
 
 // One operation word on a live walk state.
-#[unsafe(no_mangle)]
-pub extern "C" fn galmuvesh_walk_operate(
+pub fn galmuvesh_walk_operate(
     policy: &Policy,
     state: &mut walk::State,
     word: u16,
@@ -112,8 +100,7 @@ pub extern "C" fn galmuvesh_walk_operate(
 }
 
 // The same on a live belief record.
-#[unsafe(no_mangle)]
-pub extern "C" fn galmuvesh_record_operate(
+pub fn galmuvesh_record_operate(
     policy: &Policy,
     state: &mut record::State,
     word: u16,
@@ -149,8 +136,7 @@ fn put(state: &mut State, s: Passed)
 }
 
 // The state becomes the callee's; the caller keeps its own.
-#[unsafe(no_mangle)]
-pub extern "C" fn galmuvesh_passed_call(policy: &Policy, state: &mut State, signer: u8) -> u8
+pub fn galmuvesh_passed_call(policy: &Policy, state: &mut State, signer: u8) -> u8
     ensures { Moves policy.now state.old (Call signer) result state.new }
 {
     let s = passed_in(state);
@@ -162,8 +148,7 @@ pub extern "C" fn galmuvesh_passed_call(policy: &Policy, state: &mut State, sign
 }
 
 // The frame enables a target.
-#[unsafe(no_mangle)]
-pub extern "C" fn galmuvesh_passed_enable(policy: &Policy, state: &mut State, target: u8) -> u8
+pub fn galmuvesh_passed_enable(policy: &Policy, state: &mut State, target: u8) -> u8
     ensures { Moves policy.now state.old (Enable target) result state.new }
 {
     let s = passed_in(state);
@@ -175,8 +160,7 @@ pub extern "C" fn galmuvesh_passed_enable(policy: &Policy, state: &mut State, ta
 }
 
 // The frame disables a target.
-#[unsafe(no_mangle)]
-pub extern "C" fn galmuvesh_passed_disable(policy: &Policy, state: &mut State, target: u8) -> u8
+pub fn galmuvesh_passed_disable(policy: &Policy, state: &mut State, target: u8) -> u8
     ensures { Moves policy.now state.old (Disable target) result state.new }
 {
     let s = passed_in(state);
@@ -188,8 +172,7 @@ pub extern "C" fn galmuvesh_passed_disable(policy: &Policy, state: &mut State, t
 }
 
 // The frame reverts a target.
-#[unsafe(no_mangle)]
-pub extern "C" fn galmuvesh_passed_revert(policy: &Policy, state: &mut State, target: u8) -> u8
+pub fn galmuvesh_passed_revert(policy: &Policy, state: &mut State, target: u8) -> u8
     ensures { Moves policy.now state.old (Revert target) result state.new }
 {
     let s = passed_in(state);
@@ -201,13 +184,7 @@ pub extern "C" fn galmuvesh_passed_revert(policy: &Policy, state: &mut State, ta
 }
 
 // The frame checks a target.
-#[unsafe(no_mangle)]
-pub extern "C" fn galmuvesh_passed_check(
-    policy: &Policy,
-    state: &State,
-    target: u8,
-    answer: &mut u8,
-) -> u8
+pub fn galmuvesh_passed_check(policy: &Policy, state: &State, target: u8, answer: &mut u8) -> u8
     ensures { Asks policy.now state.now target result answer.old answer.new }
 {
     let s = passed_in(state);
@@ -219,8 +196,7 @@ pub extern "C" fn galmuvesh_passed_check(
 }
 
 // The derivation of a granted check.
-#[unsafe(no_mangle)]
-pub extern "C" fn galmuvesh_derivation_write(
+pub fn galmuvesh_derivation_write(
     policy: &Policy,
     state: &walk::State,
     target: u8,
@@ -236,8 +212,7 @@ pub extern "C" fn galmuvesh_derivation_write(
 }
 
 // Whether a derivation is accepted.
-#[unsafe(no_mangle)]
-pub extern "C" fn galmuvesh_derivation_check(
+pub fn galmuvesh_derivation_check(
     policy: &Policy,
     state: &walk::State,
     target: u8,

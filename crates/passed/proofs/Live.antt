@@ -17,7 +17,7 @@ use Rattle.words.specs.declared.Operation.{Operation}
 use Rattle.words.specs.Words.{barred}
 use Rattle.beliefs.specs.Lists.{any, all, empty}
 use Rattle.beliefs.specs.Policy.{Policy, Target, targets, permits, valid, refusal_in, outside_of}
-use Rattle.beliefs.specs.Stack.{Principal, Belief, Frame, Stack, on, own, permitted}
+use Rattle.beliefs.specs.Stack.{Principal, Belief, Frame, Stack, on, permitted}
 use Rattle.beliefs.specs.Trace.{step}
 use Rattle.beliefs.specs.Engine.{inherited}
 use Rattle.beliefs.proofs.Lists.{any_append}

@@ -280,7 +280,8 @@ module _ (p : Policy) (s : List ℕ) (whole : length s ≡ 4096) where
     does_mirrors (Check t) i st z =
         newest (Same (Check t)) st z (λ f r h. rw (granted_in_lem p s t f r h) (record { number = refl; byte = refl; states = h }))
 
-    pub simulate : (op : Operation) → outside_of p op ≡ 0 → (st : Stack) → Pictures p s st → Mirrors by_record p (acts by_record p op s) (trace.step false p op st)
+    pub simulate : (op : Operation) → outside_of p op ≡ 0 → (st : Stack) → Pictures p s st
+        → Mirrors by_record p (acts by_record p op s) (trace.step false p op st)
     simulate op i st h = acts_mirror by_record p op s st h (high p s st h) (λ z. does_mirrors op i st z h)
 
   -- what the code gives serves the belief sets

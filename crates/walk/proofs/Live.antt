@@ -103,5 +103,6 @@ pictured p s v h =
       },
     )
 
-pub operate_stays : (p : Policy) (s : List ℕ) (w lent n byte : ℕ) (left : List ℕ) → Operate by_walk p s w lent n byte left → fits p s ≡ true → fits p left ≡ true
+pub operate_stays : (p : Policy) (s : List ℕ) (w lent n byte : ℕ) (left : List ℕ) → Operate by_walk p s w lent n byte left → fits p s ≡ true → fits p left
+    ≡ true
 operate_stays p s w lent n byte left h f = engine.operate_stays by_walk p (pictured_fits p) s (λ v. pictured p s v f) w lent n byte left h f

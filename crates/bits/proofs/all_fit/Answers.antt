@@ -1,6 +1,6 @@
 -- The bits of the words so far together are below n, and so are those of the rest, exactly where all are.
 use mathlib.Core.Path.{sym, ◌∙◌}
-use Prim.Native.Nat.{◌-◌, ◌≤◌}
+use Prim.Native.Nat.{◌≤◌}
 use native.Mathlib.Omega.{arith}
 use lib.ListN.{length}
 use Rattle.bits.proofs.Laws.{all_below_start, all_below_more, all_below_end}

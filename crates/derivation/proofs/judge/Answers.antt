@@ -1,6 +1,5 @@
 -- What is left to judge, from the chain that the steps so far have made.
 use mathlib.Core.Path.{◌≡◌, refl, ◌∙◌}
-use Prim.Native.Nat.{◌-◌}
 use native.Mathlib.Omega.{arith}
 use lib.ListN.{length}
 use Rattle.walk.specs.Layout.{frames}

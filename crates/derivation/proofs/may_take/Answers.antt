@@ -11,10 +11,10 @@ use Rattle.derivation.proofs.may_take.Goals as goal
 use Rattle.derivation.proofs.may_take.Goals.{After-has}
 
 -- the last frame of a take is asked for its enabled mark
-enabled-there : (c : goal.After-has)
+enabled_there : (c : goal.After-has)
     → let a = c.args in
     c.has.result ≡ bit (get_or (frames a.state.now) (a.n - 1) nobody).enabled a.target
-enabled-there c =
+enabled_there c =
     let a = c.args in
     c.has.ensures ∙ ap (λ (m : Marked). bit m.enabled a.target) c.frame-last.ensures
 
@@ -29,7 +29,7 @@ returns-then-not-has c =
     rw (
       take_in c.args.target c.args.n c.args.state.now c.if-n-lt1.false
           (rw c.depth.ensures at c.if-depth-n.false),
-      ← enabled-there (goal.at.returns-then-not-has c).After-has,
+      ← enabled_there (goal.at.returns-then-not-has c).After-has,
       c.if-not-has.true,
     )
 
@@ -38,6 +38,6 @@ returns c =
     rw (
       take_in c.args.target c.args.n c.args.state.now c.if-n-lt1.false
           (rw c.depth.ensures at c.if-depth-n.false),
-      ← enabled-there (goal.at.returns c).After-has,
+      ← enabled_there (goal.at.returns c).After-has,
       c.if-not-has.false,
     ) c.none_disabled.ensures

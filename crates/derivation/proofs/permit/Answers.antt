@@ -18,8 +18,8 @@ use Rattle.derivation.proofs.permit.Goals.{After-meet, Else-has, Else-not-has}
 not_done : (c : goal.Else-has) → let a = c.args in bit a.chain.done (place a.step) ≡ false
 not_done c = sym c.has.ensures ∙ c.if-has.false
 
-signer-there : (c : goal.Else-not-has) → let a = c.args in bit a.chain.spoken (place a.step) ≡ true
-signer-there c = sym c.has-2.ensures ∙ c.if-not-has.false
+signer_there : (c : goal.Else-not-has) → let a = c.args in bit a.chain.spoken (place a.step) ≡ true
+signer_there c = sym c.has-2.ensures ∙ c.if-not-has.false
 
 -- the test of the word of the bit asks the policy of that signer
 permitted : (c : goal.After-meet)
@@ -48,12 +48,14 @@ returns-then-not-has c =
 pub returns-then-not-meet : goal.returns-then-not-meet
 returns-then-not-meet c =
     let a = c.args in
-    allowed_barred (frames a.state.now) a.chain (place a.step) _ _ (not_done (goal.at.returns-then-not-meet c).Else-has) (signer-there (goal.at.returns-then-not-meet c).Else-not-has)
+    allowed_barred (frames a.state.now) a.chain (place a.step) _ _ (not_done (goal.at.returns-then-not-meet c).Else-has)
+    (signer_there (goal.at.returns-then-not-meet c).Else-not-has)
     (sym (permitted (goal.at.returns-then-not-meet c).After-meet) ∙ c.if-not-meet.true)
 
 pub returns : goal.returns
 returns c =
     let a = c.args in
     rw c.with-2.ensures
-    (allowed_signer (frames a.state.now) a.chain (place a.step) _ _ (omega arith) c.if-chain-k.false (not_done (goal.at.returns c).Else-has) (signer-there (goal.at.returns c).Else-not-has)
+    (allowed_signer (frames a.state.now) a.chain (place a.step) _ _ (omega arith) c.if-chain-k.false (not_done (goal.at.returns c).Else-has)
+    (signer_there (goal.at.returns c).Else-not-has)
     (sym (permitted (goal.at.returns c).After-meet) ∙ c.if-not-meet.false))

@@ -13,10 +13,10 @@ loop-k-init c = (omega arith, refl, rw (add-zero, sub-zero))
 
 pub loop-k-preserved : goal.loop-k-preserved
 loop-k-preserved c =
-    let at-loop = c.loop-k in
+    let at_loop = c.loop-k in
     let a = c.args in
-    let turn = put_next at-loop.steps a.at at-loop.k _ _ _ (drops_next at-loop.k a.many (omega arith)) in
-    (omega arith, simp length-set at-loop.invariant.1, turn ∙ at-loop.invariant.2)
+    let turn = put_next at_loop.steps a.at at_loop.k _ _ _ (drops_next at_loop.k a.many (omega arith)) in
+    (omega arith, simp length-set at_loop.invariant.1, turn ∙ at_loop.invariant.2)
 
 pub shape_of-steps : goal.shape_of-steps
 shape_of-steps c = c.loop-k.invariant.1

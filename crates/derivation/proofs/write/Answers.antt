@@ -24,14 +24,16 @@ returns-then-number-ne-ACCEPTED c =
 pub returns-then-not-seen : goal.returns-then-not-seen
 returns-then-not-seen c =
     let a = c.args in
-    rw (write_forbidden a.policy.now a.state.now a.target (through (goal.at.returns-then-not-seen c).Else-number-ne-ACCEPTED) _ c.check-seen.ensures (length a.steps.now)
+    rw (write_forbidden a.policy.now a.state.now a.target (through (goal.at.returns-then-not-seen c).Else-number-ne-ACCEPTED) _ c.check-seen.ensures
+    (length a.steps.now)
     (not-true _ c.if-not-seen.true))
     (record { number = refl; figure = refl; buffer = refl })
 
 pub returns-then-steps-n : goal.returns-then-steps-n
 returns-then-steps-n c =
     let a = c.args in
-    rw (write_short a.policy.now a.state.now a.target (through (goal.at.returns-then-steps-n c).Else-number-ne-ACCEPTED) _ c.check-seen.ensures (length a.steps.now)
+    rw (write_short a.policy.now a.state.now a.target (through (goal.at.returns-then-steps-n c).Else-number-ne-ACCEPTED) _ c.check-seen.ensures
+    (length a.steps.now)
     (not-false _ c.if-not-seen.false) c.if-steps-n.true)
     (record { number = refl; figure = refl; buffer = refl })
 

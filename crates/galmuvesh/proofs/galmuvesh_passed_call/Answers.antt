@@ -12,4 +12,5 @@ returns-then-number-eq-ACCEPTED c =
     (rw (eq-eqb _ _ c.if-number-eq-ACCEPTED.true, ← s.ensures, ← c.call.ensures) c.put.ensures)
 
 pub returns-else-number-eq-ACCEPTED : goal.returns-else-number-eq-ACCEPTED
-returns-else-number-eq-ACCEPTED c = moves_by _ _ _ refl _ _ (rw (← c.passed_in-s.ensures) c.refusal-number.ensures) (rw (ne_eqb _ _ c.if-number-eq-ACCEPTED.false))
+returns-else-number-eq-ACCEPTED c =
+    moves_by _ _ _ refl _ _ (rw (← c.passed_in-s.ensures) c.refusal-number.ensures) (rw (ne_eqb _ _ c.if-number-eq-ACCEPTED.false))

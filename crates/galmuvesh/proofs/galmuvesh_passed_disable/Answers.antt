@@ -17,4 +17,5 @@ returns-then-number-eq-ACCEPTED c =
     (c.put.ensures ∙ ap words_of (c.disable.ensures ∙ ap (λ (x : Passed). disable_of x t) s.ensures)))
 
 pub returns-else-number-eq-ACCEPTED : goal.returns-else-number-eq-ACCEPTED
-returns-else-number-eq-ACCEPTED c = moves_by _ _ _ refl _ _ (rw (← c.passed_in-s.ensures) c.refusal-number.ensures) (rw (ne_eqb _ _ c.if-number-eq-ACCEPTED.false))
+returns-else-number-eq-ACCEPTED c =
+    moves_by _ _ _ refl _ _ (rw (← c.passed_in-s.ensures) c.refusal-number.ensures) (rw (ne_eqb _ _ c.if-number-eq-ACCEPTED.false))

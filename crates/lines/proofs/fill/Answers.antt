@@ -2,7 +2,7 @@
 use native.Mathlib.Omega.{arith}
 use mathlib.Core.Path.{refl, sym, ◌∙◌}
 use mathlib.Core.List.{List}
-use Prim.Native.Nat.{ℕ, ◌-◌, ◌/◌, ◌≤◌}
+use Prim.Native.Nat.{ℕ, ◌/◌, ◌≤◌}
 use lib.ListN.{length}
 use Rattle.lines.specs.Page.{line_at}
 use Rattle.lines.proofs.After.{Composed, composed}
@@ -17,20 +17,20 @@ abbrev line : goal.Start → ℕ → List ℕ
 line c = line_at c.args.policy.now c.args.trace.now c.args.answers.now c.args.report
 
 -- that at `next`, composed apart
-composed-at : (c : goal.After-put_at-len) → Composed c.put_at-len.result c.put_at-len.new.line (line (goal.at.After-put_at-len c).Start c.loop-next.next)
-composed-at c =
+composed_at : (c : goal.After-put_at-len) → Composed c.put_at-len.result c.put_at-len.new.line (line (goal.at.After-put_at-len c).Start c.loop-next.next)
+composed_at c =
     composed {bytes = line (goal.at.After-put_at-len c).Start c.loop-next.next} c.put_at-len.ensures c.loop-next.invariant.1.1.0
     (line_short c.args.policy.now c.args.trace.now c.args.answers.now c.args.report c.loop-next.next)
 
 -- no more lines than a trace has words, and two
-end-most : (c : goal.After-words_run-end) → let trace = c.args.trace.now in
+end_most : (c : goal.After-words_run-end) → let trace = c.args.trace.now in
     c.words_run-end.result ≤ length trace / 2
-end-most c =
+end_most c =
     let a = c.args in
     rw c.words_run-end.ensures (run_most a.trace.now a.report.figure)
 
 pub overflow_add-end : goal.overflow_add-end
-overflow_add-end c = omega (arith, end-most (goal.at.overflow_add-end c).After-words_run-end)
+overflow_add-end c = omega (arith, end_most (goal.at.overflow_add-end c).After-words_run-end)
 
 pub loop-next-init : goal.loop-next-init
 loop-next-init c = (omega arith, (refl, (refl, begun (line (goal.at.loop-next-init c).Start) _ _ _)))
@@ -41,27 +41,28 @@ shape_of-out-then-out-at c = c.loop-next.invariant.1.0
 pub returns-then-out-at : goal.returns-then-out-at
 returns-then-out-at c =
     rw (← c.words_run-end.ensures)
-    (full (line (goal.at.returns-then-out-at c).Start) c.loop-next.invariant.1.1.1 (omega (arith, c.if-out-at.true, (composed-at (goal.at.returns-then-out-at c).After-put_at-len).len, c.loop-next.invariant.1.0)))
+    (full (line (goal.at.returns-then-out-at c).Start) c.loop-next.invariant.1.1.1
+    (omega (arith, c.if-out-at.true, (composed_at (goal.at.returns-then-out-at c).After-put_at-len).len, c.loop-next.invariant.1.0)))
 
 pub slice_bounds-line-end : goal.slice_bounds-line-end
-slice_bounds-line-end c = (composed-at (goal.at.slice_bounds-line-end c).After-put_at-len).within
+slice_bounds-line-end c = (composed_at (goal.at.slice_bounds-line-end c).After-put_at-len).within
 
 pub slice_bounds-put-end : goal.slice_bounds-put-end
-slice_bounds-put-end c = sym (composed-at (goal.at.slice_bounds-put-end c).After-put_at-len).span
+slice_bounds-put-end c = sym (composed_at (goal.at.slice_bounds-put-end c).After-put_at-len).span
 
 pub put-at-requires : goal.put-at-requires
 put-at-requires c =
-    let composed = composed-at (goal.at.put-at-requires c).After-put_at-len in
+    let composed = composed_at (goal.at.put-at-requires c).After-put_at-len in
     omega (arith, composed.span, c.if-out-at.false, c.loop-next.invariant.0, c.loop-next.invariant.1.0)
 
 pub overflow_add-next : goal.overflow_add-next
 overflow_add-next c =
-    omega (arith, c.loop-next-test.true, end-most (goal.at.overflow_add-next c).After-words_run-end)
+    omega (arith, c.loop-next-test.true, end_most (goal.at.overflow_add-next c).After-words_run-end)
 
 pub loop-next-preserved : goal.loop-next-preserved
 loop-next-preserved c =
     let inv = c.loop-next.invariant in
-    let composed = composed-at (goal.at.loop-next-preserved c).After-put_at-len in
+    let composed = composed_at (goal.at.loop-next-preserved c).After-put_at-len in
     let put = rw composed.text at c.put-at.ensures in
     let left = c.if-out-at.false in
     let further = onward _ inv.1.1.1 c.loop-next-test.true (omega (arith, left, composed.len, inv.1.0)) put in

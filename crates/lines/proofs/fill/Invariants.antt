@@ -7,7 +7,9 @@ use Rattle.lines.proofs.Pages.{Filling}
 use Rattle.lines.proofs.fill.Given as goal
 
 abbrev pub invariant-loop-next : goal.invariant-loop-next
-invariant-loop-next l = (l.at ≤ length l.initial.out) × ((length l.out ≡ length l.initial.out) × ((length l.line ≡ 80) × Filling (line_at l.policy l.trace l.answers l.report) l.initial.out l.end l.from l.next l.at l.out))
+invariant-loop-next l =
+    (l.at ≤ length l.initial.out) × ((length l.out ≡ length l.initial.out)
+    × ((length l.line ≡ 80) × Filling (line_at l.policy l.trace l.answers l.report) l.initial.out l.end l.from l.next l.at l.out))
 
 abbrev pub decreases-loop-next : goal.decreases-loop-next
 decreases-loop-next l = l.end - l.next

@@ -2,7 +2,6 @@
 use native.Mathlib.Nat.{add-zero}
 use native.Mathlib.Omega.{arith}
 use mathlib.Core.Path.{refl, sym, ◌∙◌}
-use Prim.Native.Nat.{◌-◌}
 use lib.ListN.{length-set}
 use Rattle.beliefs.proofs.Lists.{put_turn, put_end}
 use Rattle.lines.proofs.put.Goals as goal
@@ -12,10 +11,10 @@ loop-i-init c = (omega arith, (refl, rw (add-zero)))
 
 pub loop-i-preserved : goal.loop-i-preserved
 loop-i-preserved c =
-    let at-loop = c.loop-i in
+    let at_loop = c.loop-i in
     let a = c.args in
-    let next = put_turn at-loop.out a.text.now a.at at-loop.i c.loop-i-test.true in
-    (omega arith, (simp length-set at-loop.invariant.1.0, next ∙ at-loop.invariant.1.1))
+    let next = put_turn at_loop.out a.text.now a.at at_loop.i c.loop-i-test.true in
+    (omega arith, (simp length-set at_loop.invariant.1.0, next ∙ at_loop.invariant.1.1))
 
 pub shape_of-out : goal.shape_of-out
 shape_of-out c = c.loop-i.invariant.1.0
@@ -23,8 +22,8 @@ shape_of-out c = c.loop-i.invariant.1.0
 pub returns : goal.returns
 returns c =
     let a = c.args in
-    let at-loop = c.loop-i in
+    let at_loop = c.loop-i in
     record {
-      until = omega (arith, at-loop.invariant.0);
-      buffer = sym (put_end at-loop.out a.text.now a.at at-loop.i c.loop-i-test.false) ∙ at-loop.invariant.1.1;
+      until = omega (arith, at_loop.invariant.0);
+      buffer = sym (put_end at_loop.out a.text.now a.at at_loop.i c.loop-i-test.false) ∙ at_loop.invariant.1.1;
     }

@@ -25,10 +25,10 @@ loop-k-smaller c = omega arith
 
 pub loop-k-preserved : goal.loop-k-preserved
 loop-k-preserved c =
-    let at-loop = c.loop-k in
+    let at_loop = c.loop-k in
     let a = c.args in
-    let turn = put_turn at-loop.bytes a.at at-loop.k a.wide at-loop.w c.loop-k-test.true in
-    (omega arith, (simp length-set at-loop.invariant.1.0, rw c.mirrored.ensures (turn ∙ at-loop.invariant.1.1)))
+    let turn = put_turn at_loop.bytes a.at at_loop.k a.wide at_loop.w c.loop-k-test.true in
+    (omega arith, (simp length-set at_loop.invariant.1.0, rw c.mirrored.ensures (turn ∙ at_loop.invariant.1.1)))
 
 pub shape_of-bytes : goal.shape_of-bytes
 shape_of-bytes c = c.loop-k.invariant.1.0

@@ -1,9 +1,8 @@
 -- The rows stored so far and those still to store are together the rows' bytes.
 use native.Mathlib.Omega.{arith}
 use mathlib.Core.Path.{◌≡◌, refl, sym, ◌∙◌}
-use Prim.Native.Nat.{◌+◌, ◌-◌, ◌*◌, ◌≤◌}
+use Prim.Native.Nat.{◌+◌, ◌*◌, ◌≤◌}
 use lib.ListN.{length}
-use Rattle.beliefs.specs.Policy.{row}
 use Rattle.policy.proofs.Rows.{row_within}
 use Rattle.policy.proofs.Written.{put_rows_turn, rows_put}
 use Rattle.policy.proofs.put_rows.Goals as goal
@@ -35,10 +34,10 @@ loop-s-smaller c = omega arith
 pub loop-s-preserved : goal.loop-s-preserved
 loop-s-preserved c =
     let a = c.args in
-    let at-loop = c.loop-s in
-    let turn = put_rows_turn at-loop.bytes a.policy.now _ a.wide at-loop.s (omega arith) (omega arith) c.loop-s-test.true in (
+    let at_loop = c.loop-s in
+    let turn = put_rows_turn at_loop.bytes a.policy.now _ a.wide at_loop.s (omega arith) (omega arith) c.loop-s-test.true in (
       omega arith,
-      (c.put_row.auto.bytes ∙ at-loop.invariant.1.0, rw (c.put_row.ensures, c.row.ensures) (turn ∙ at-loop.invariant.1.1)),
+      (c.put_row.auto.bytes ∙ at_loop.invariant.1.0, rw (c.put_row.ensures, c.row.ensures) (turn ∙ at_loop.invariant.1.1)),
     )
 
 pub shape_of-bytes : goal.shape_of-bytes
@@ -47,6 +46,6 @@ shape_of-bytes c = c.loop-s.invariant.1.0
 pub returns : goal.returns
 returns c =
     let a = c.args in
-    let at-loop = c.loop-s in
-    let last = rows_put at-loop.bytes a.policy.now c.signers-rows.result a.wide at-loop.s _ c.loop-s-test.false in
-    rw (← c.signers-rows.ensures) (sym last ∙ at-loop.invariant.1.1)
+    let at_loop = c.loop-s in
+    let last = rows_put at_loop.bytes a.policy.now c.signers-rows.result a.wide at_loop.s _ c.loop-s-test.false in
+    rw (← c.signers-rows.ensures) (sym last ∙ at_loop.invariant.1.1)

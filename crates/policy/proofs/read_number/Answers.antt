@@ -62,7 +62,8 @@ pub returns-then-bytes-wanted : goal.returns-then-bytes-wanted
 returns-then-bytes-wanted c = rw (past (goal.at.returns-then-bytes-wanted c).After-size-wanted, lt-ltb _ _ c.if-bytes-wanted.true)
 
 pub returns-then-wanted-bytes : goal.returns-then-wanted-bytes
-returns-then-wanted-bytes c = rw (past (goal.at.returns-then-wanted-bytes c).After-size-wanted, le-ltb _ _ c.if-bytes-wanted.false, lt-ltb _ _ c.if-wanted-bytes.true)
+returns-then-wanted-bytes c =
+    rw (past (goal.at.returns-then-wanted-bytes c).After-size-wanted, le-ltb _ _ c.if-bytes-wanted.false, lt-ltb _ _ c.if-wanted-bytes.true)
 
 pub padding_clear-requires : goal.padding_clear-requires
 padding_clear-requires c = (rw c.width.ensures (omega arith), omega arith)

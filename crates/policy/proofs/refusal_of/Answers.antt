@@ -8,9 +8,9 @@ use Rattle.beliefs.specs.Policy.{outside_of}
 use Rattle.policy.proofs.refusal_of.Goals as goal
 use Rattle.policy.proofs.refusal_of.Goals.{After-outside-outside}
 
-of-policy : (c : goal.After-outside-outside)
+of_policy : (c : goal.After-outside-outside)
     → let a = c.args in c.outside-outside.result ≡ outside_of a.policy.now a.op
-of-policy c =
+of_policy c =
     let a = c.args in
     c.outside-outside.ensures ∙ ap₂ (λ (s n : ℕ). outside s n a.op) c.signers.ensures c.targets.ensures
 
@@ -19,9 +19,18 @@ returns-then-number-ne-ACCEPTED c = rw (← c.refusal_in-number.ensures, ne_eqb 
 
 pub returns-then-outside-ne-ACCEPTED : goal.returns-then-outside-ne-ACCEPTED
 returns-then-outside-ne-ACCEPTED c =
-    rw (← c.refusal_in-number.ensures, eq-eqb _ _ c.if-number-ne-ACCEPTED.false, ← of-policy (goal.at.returns-then-outside-ne-ACCEPTED c).After-outside-outside) (sym (stopped _ _ c.if-outside-ne-ACCEPTED.true))
+    rw (
+      ← c.refusal_in-number.ensures,
+      eq-eqb _ _ c.if-number-ne-ACCEPTED.false,
+      ← of_policy (goal.at.returns-then-outside-ne-ACCEPTED c).After-outside-outside,
+    ) (sym (stopped _ _ c.if-outside-ne-ACCEPTED.true))
 
 pub returns : goal.returns
 returns c =
-    rw (← c.refusal_in-number.ensures, eq-eqb _ _ c.if-number-ne-ACCEPTED.false, ← of-policy (goal.at.returns c).After-outside-outside, eq-eqb _ _ c.if-outside-ne-ACCEPTED.false)
+    rw (
+      ← c.refusal_in-number.ensures,
+      eq-eqb _ _ c.if-number-ne-ACCEPTED.false,
+      ← of_policy (goal.at.returns c).After-outside-outside,
+      eq-eqb _ _ c.if-outside-ne-ACCEPTED.false,
+    )
     c.barred.ensures

@@ -2,15 +2,15 @@
 use native.Mathlib.Omega.{arith}
 use mathlib.Core.Path.{◌≡◌}
 use lib.Seq.{drop-length}
-use Rattle.beliefs.specs.Policy.{mirrored, row_of}
+use Rattle.beliefs.specs.Policy.{row_of}
 use Rattle.policy.proofs.Rows.{RowTurn, row_turn}
 use Rattle.policy.proofs.row_of.Goals as goal
 use Rattle.policy.proofs.row_of.Goals.{In-loop-k}
 
 turn : (c : goal.In-loop-k) → RowTurn c.args.bytes.now c.loop-k.w c.loop-k.k
 turn c =
-    let at-loop = c.loop-k in
-    row_turn c.args.bytes.now at-loop.w at-loop.k c.requires c.loop-k-test.true at-loop.invariant.0 at-loop.invariant.1
+    let at_loop = c.loop-k in
+    row_turn c.args.bytes.now at_loop.w at_loop.k c.requires c.loop-k-test.true at_loop.invariant.0 at_loop.invariant.1
 
 pub loop-k-init : goal.loop-k-init
 unfolding row_of

@@ -1,6 +1,5 @@
 -- The rows from `from` up to s, one more at each turn.
 use mathlib.Core.Path.{◌≡◌}
-use Prim.Native.Nat.{◌-◌}
 use native.Mathlib.Omega.{arith}
 use Rattle.policy.proofs.Fits.{none_together, one_together}
 use Rattle.policy.proofs.rows_together.Goals as goal

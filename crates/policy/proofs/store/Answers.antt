@@ -1,7 +1,6 @@
 -- The words stored so far and those still to store are together the value, and no other word of the policy is left.
 use native.Mathlib.Omega.{arith}
 use mathlib.Core.Path.{◌≡◌, refl, sym, ◌∙◌}
-use Prim.Native.Nat.{◌-◌}
 use lib.ListN.{length, drop}
 use Rattle.beliefs.specs.Policy.{rows_of, rows_read}
 use Rattle.policy.proofs.Accepted.{accepted}
@@ -40,10 +39,10 @@ row_in-requires c =
 
 pub loop-s-preserved : goal.loop-s-preserved
 loop-s-preserved c =
-    let at-loop = c.loop-s in
+    let at_loop = c.loop-s in
     let a = c.args in
-    let turn = store_turn at-loop.policy a.bytes.now at-loop.s c.loop-s-test.true in
-    (omega arith, rw (c.row_in.ensures, rows_are (goal.at.loop-s-preserved c).After-width-wide) (turn ∙ at-loop.invariant.1))
+    let turn = store_turn at_loop.policy a.bytes.now at_loop.s c.loop-s-test.true in
+    (omega arith, rw (c.row_in.ensures, rows_are (goal.at.loop-s-preserved c).After-width-wide) (turn ∙ at_loop.invariant.1))
 
 pub returns : goal.returns
 returns c =

@@ -10,19 +10,19 @@ use Rattle.policy.proofs.valid.Goals as goal
 use Rattle.policy.proofs.valid.Goals.{After-in_range, After-in_range-2}
 
 -- what is left of the definition past the start and S, and past N
-past-signers : (c : goal.After-in_range)
+past_signers : (c : goal.After-in_range)
     → let p = c.args.policy.now in
     valid p ≡ (c.in_range.result && (within (targets p) 64 && each (row_fits p) 32))
 unfolding valid
-past-signers c =
+past_signers c =
     rw (le-leb _ _ c.if-policy-gt1.false, ← c.signers.ensures, ← c.in_range.ensures)
 
-past-targets : (c : goal.After-in_range-2)
+past_targets : (c : goal.After-in_range-2)
     → let p = c.args.policy.now in
     valid p ≡ (c.in_range-2.result && each (row_fits p) 32)
-past-targets c =
+past_targets c =
     rw (
-      past-signers (goal.at.After-in_range-2 c).After-in_range,
+      past_signers (goal.at.After-in_range-2 c).After-in_range,
       c.if-not-in_range.false,
       ← c.targets.ensures,
       ← c.in_range-2.ensures,
@@ -33,10 +33,10 @@ unfolding valid
 returns-then-policy-gt1 c = rw (lt-leb _ _ c.if-policy-gt1.true)
 
 pub returns-then-not-in_range : goal.returns-then-not-in_range
-returns-then-not-in_range c = rw (past-signers (goal.at.returns-then-not-in_range c).After-in_range, c.if-not-in_range.true)
+returns-then-not-in_range c = rw (past_signers (goal.at.returns-then-not-in_range c).After-in_range, c.if-not-in_range.true)
 
 pub returns-then-not-in_range-2 : goal.returns-then-not-in_range-2
-returns-then-not-in_range-2 c = rw (past-targets (goal.at.returns-then-not-in_range-2 c).After-in_range-2, c.if-not-in_range-2.true)
+returns-then-not-in_range-2 c = rw (past_targets (goal.at.returns-then-not-in_range-2 c).After-in_range-2, c.if-not-in_range-2.true)
 
 pub rows_fit-requires : goal.rows_fit-requires
 rows_fit-requires c =
@@ -47,4 +47,4 @@ rows_fit-requires c =
 
 pub returns : goal.returns
 returns c =
-    rw (past-targets (goal.at.returns c).After-in_range-2, c.if-not-in_range-2.false) c.rows_fit.ensures
+    rw (past_targets (goal.at.returns c).After-in_range-2, c.if-not-in_range-2.false) c.rows_fit.ensures

@@ -17,7 +17,9 @@ wanted c = rw (← c.targets.ensures, ← c.signers.ensures) c.size-wanted.ensur
 
 pub returns-then-number-ne-ACCEPTED : goal.returns-then-number-ne-ACCEPTED
 unfolding writing
-returns-then-number-ne-ACCEPTED c = rw (← c.refusal-number.ensures, ne_eqb _ _ c.if-number-ne-ACCEPTED.true, ne_eqb _ _ c.if-number-ne-ACCEPTED.true) (record { number = refl; figure = refl; buffer = refl })
+returns-then-number-ne-ACCEPTED c =
+    rw (← c.refusal-number.ensures, ne_eqb _ _ c.if-number-ne-ACCEPTED.true, ne_eqb _ _ c.if-number-ne-ACCEPTED.true)
+    (record { number = refl; figure = refl; buffer = refl })
 
 pub size-wanted-requires : goal.size-wanted-requires
 size-wanted-requires c = let r = ranges _ (let_in _ (let_through (goal.at.size-wanted-requires c).Else-number-ne-ACCEPTED)) in omega arith
@@ -25,14 +27,23 @@ size-wanted-requires c = let r = ranges _ (let_in _ (let_through (goal.at.size-w
 pub returns-then-bytes-wanted : goal.returns-then-bytes-wanted
 unfolding writing
 returns-then-bytes-wanted c =
-    rw (eq-eqb _ _ (let_through (goal.at.returns-then-bytes-wanted c).Else-number-ne-ACCEPTED), ← wanted (goal.at.returns-then-bytes-wanted c).After-size-wanted, lt-ltb _ _ c.if-bytes-wanted.true)
+    rw (
+      eq-eqb _ _ (let_through (goal.at.returns-then-bytes-wanted c).Else-number-ne-ACCEPTED),
+      ← wanted (goal.at.returns-then-bytes-wanted c).After-size-wanted,
+      lt-ltb _ _ c.if-bytes-wanted.true,
+    )
     (record { number = refl; figure = refl; buffer = refl })
 
 pub put-requires : goal.put-requires
-put-requires c = (let_in _ (let_through (goal.at.put-requires c).Else-number-ne-ACCEPTED), rw (← wanted (goal.at.put-requires c).After-size-wanted) c.if-bytes-wanted.false)
+put-requires c =
+    (let_in _ (let_through (goal.at.put-requires c).Else-number-ne-ACCEPTED), rw (← wanted (goal.at.put-requires c).After-size-wanted) c.if-bytes-wanted.false)
 
 pub returns : goal.returns
 unfolding writing
 returns c =
-    rw (eq-eqb _ _ (let_through (goal.at.returns c).Else-number-ne-ACCEPTED), ← wanted (goal.at.returns c).After-size-wanted, le-ltb _ _ c.if-bytes-wanted.false)
+    rw (
+      eq-eqb _ _ (let_through (goal.at.returns c).Else-number-ne-ACCEPTED),
+      ← wanted (goal.at.returns c).After-size-wanted,
+      le-ltb _ _ c.if-bytes-wanted.false,
+    )
     (record { number = refl; figure = refl; buffer = c.put.ensures })

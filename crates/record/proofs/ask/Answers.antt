@@ -12,7 +12,8 @@ tested c = c.framed-number.ensures ∙ ap framed c.depth.ensures
 
 pub returns-then-number-ne-ACCEPTED : goal.returns-then-number-ne-ACCEPTED
 unfolding barred
-returns-then-number-ne-ACCEPTED c = rw (← tested (goal.at.returns-then-number-ne-ACCEPTED c).After-framed-number, ne_eqb _ _ c.if-number-ne-ACCEPTED.true) (gives c.refused.ensures refl)
+returns-then-number-ne-ACCEPTED c =
+    rw (← tested (goal.at.returns-then-number-ne-ACCEPTED c).After-framed-number, ne_eqb _ _ c.if-number-ne-ACCEPTED.true) (gives c.refused.ensures refl)
 
 pub returns : goal.returns
 unfolding barred

@@ -20,7 +20,8 @@ room c = room_for _ (sym (tested (goal.at.Else-number-ne-ACCEPTED c).After-deepe
 
 pub returns-then-number-ne-ACCEPTED : goal.returns-then-number-ne-ACCEPTED
 unfolding barred
-returns-then-number-ne-ACCEPTED c = rw (← tested (goal.at.returns-then-number-ne-ACCEPTED c).After-deeper-number, ne_eqb _ _ c.if-number-ne-ACCEPTED.true) (gives c.refused.ensures refl)
+returns-then-number-ne-ACCEPTED c =
+    rw (← tested (goal.at.returns-then-number-ne-ACCEPTED c).After-deeper-number, ne_eqb _ _ c.if-number-ne-ACCEPTED.true) (gives c.refused.ensures refl)
 
 pub begin-requires : goal.begin-requires
 begin-requires c = room (goal.at.begin-requires c).Else-number-ne-ACCEPTED

@@ -1,6 +1,5 @@
 -- After i turns the first i words from the frame's signer on are zero.
 use mathlib.Core.Path.{◌≡◌, refl, sym}
-use Prim.Native.Nat.{◌-◌}
 use native.Mathlib.Omega.{arith}
 use Rattle.record.proofs.Frames.{filled_none, filled_more}
 use Rattle.record.proofs.clear.Goals as goal

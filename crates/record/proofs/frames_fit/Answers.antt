@@ -1,10 +1,7 @@
 -- The frames below the next one fit, one more at each turn.
 use mathlib.Core.Path.{◌≡◌, sym, ◌∙◌}
-use mathlib.Core.Bool.{true}
-use Prim.Native.Nat.{◌-◌}
 use native.Mathlib.Omega.{arith}
 use Rattle.beliefs.proofs.Lists.{each_none, each_more, each_false}
-use Rattle.record.specs.Fits.{frame_fits}
 use Rattle.record.proofs.frames_fit.Goals as goal
 
 pub loop-frame-init : goal.loop-frame-init

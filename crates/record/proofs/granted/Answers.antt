@@ -1,7 +1,6 @@
 -- At each turn the k newest frames are permitted, and none of the lengths below k is held.
 use borrow.Author.Count.{below_more}
 use mathlib.Core.Path.{◌≡◌, sym, ap, ◌∙◌}
-use mathlib.Core.Bool.{true, false}
 use Prim.Native.Nat.{ℕ, ◌-◌}
 use native.Mathlib.Omega.{arith}
 use Rattle.bits.specs.Bit.{bit}
@@ -13,11 +12,11 @@ use Rattle.record.proofs.granted.Goals as goal
 use Rattle.record.proofs.granted.Goals.{After-has, After-meet}
 
 -- what the callees say of the frame and the length that are tried: the test of the word of the bit is the test of the bit
-is-permitted : (c : goal.After-meet)
+is_permitted : (c : goal.After-meet)
     → let a = c.args in
     c.meet.result ≡ permits a.policy.now (signer_at a.state.now (depth a.state.now - 1 - c.loop-k.k)) a.target
 unfolding permits
-is-permitted c =
+is_permitted c =
     rw (← c.depth-d.ensures, ← c.signer.ensures)
     (c.meet.ensures.alone _ c.with-asked.ensures ∙ ap (λ (w : ℕ). bit w c.args.target) c.row.ensures)
 
@@ -32,7 +31,7 @@ loop-k-init c = (omega arith, (each_none _, λ i l. absurd (omega arith)))
 
 pub returns-then-not-meet : goal.returns-then-not-meet
 returns-then-not-meet c =
-    sym (tried_barred _ _ _ _ c.loop-k.invariant.1.1 (sym (is-permitted (goal.at.returns-then-not-meet c).After-meet) ∙ c.if-not-meet.true))
+    sym (tried_barred _ _ _ _ c.loop-k.invariant.1.1 (sym (is_permitted (goal.at.returns-then-not-meet c).After-meet) ∙ c.if-not-meet.true))
 
 pub returns-then-has : goal.returns-then-has
 returns-then-has c =
@@ -40,18 +39,17 @@ returns-then-has c =
     (tried_found _ _ _ _
     (omega arith)
     c.loop-k.invariant.1.0
-    (sym (is-permitted (goal.at.returns-then-has c).After-meet) ∙ c.if-not-meet.false)
+    (sym (is_permitted (goal.at.returns-then-has c).After-meet) ∙ c.if-not-meet.false)
     (sym (is_held (goal.at.returns-then-has c).After-has) ∙ c.if-has.true))
 
 pub loop-k-preserved : goal.loop-k-preserved
-loop-k-preserved c =
-    (
-      omega arith,
-      (
-        each_more _ _ c.loop-k.invariant.1.0 (sym (is-permitted (goal.at.loop-k-preserved c).After-meet) ∙ c.if-not-meet.false),
-        below_more _ _ c.loop-k.invariant.1.1 (sym (is_held (goal.at.loop-k-preserved c).After-has) ∙ c.if-has.false),
-      ),
-    )
+loop-k-preserved c = (
+  omega arith,
+  (
+    each_more _ _ c.loop-k.invariant.1.0 (sym (is_permitted (goal.at.loop-k-preserved c).After-meet) ∙ c.if-not-meet.false),
+    below_more _ _ c.loop-k.invariant.1.1 (sym (is_held (goal.at.loop-k-preserved c).After-has) ∙ c.if-has.false),
+  ),
+)
 
 pub returns : goal.returns
 returns c = sym (tried_none _ _ _ (λ i l. c.loop-k.invariant.1.1 i (omega arith)))

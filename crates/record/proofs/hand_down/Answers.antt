@@ -1,6 +1,5 @@
 -- After t turns the words of the first t targets are one longer, and those that are read stay as they were.
 use mathlib.Core.Path.{◌≡◌, sym, ap}
-use Prim.Native.Nat.{◌-◌}
 use native.Mathlib.Omega.{arith}
 use Rattle.record.specs.Does.{longer}
 use Rattle.record.proofs.Frames.{filled_none, filled_more, below_held}

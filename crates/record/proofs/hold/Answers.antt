@@ -11,11 +11,16 @@ tested : (c : goal.After-framed-number) → c.framed-number.result ≡ framed (d
 tested c = c.framed-number.ensures ∙ ap framed c.depth.ensures
 
 pub returns-then-number-ne-ACCEPTED : goal.returns-then-number-ne-ACCEPTED
-returns-then-number-ne-ACCEPTED c = rw (← tested (goal.at.returns-then-number-ne-ACCEPTED c).After-framed-number, ne_eqb _ _ c.if-number-ne-ACCEPTED.true) (gives c.refused.ensures refl)
+returns-then-number-ne-ACCEPTED c =
+    rw (← tested (goal.at.returns-then-number-ne-ACCEPTED c).After-framed-number, ne_eqb _ _ c.if-number-ne-ACCEPTED.true) (gives c.refused.ensures refl)
 
 pub returns-then-target-ge-TARGETS : goal.returns-then-target-ge-TARGETS
 returns-then-target-ge-TARGETS c =
-    rw (← tested (goal.at.returns-then-target-ge-TARGETS c).After-framed-number, eq-eqb _ _ c.if-number-ne-ACCEPTED.false, le-ltb _ 64 c.if-target-ge-TARGETS.true) (gives c.done.ensures refl)
+    rw (
+      ← tested (goal.at.returns-then-target-ge-TARGETS c).After-framed-number,
+      eq-eqb _ _ c.if-number-ne-ACCEPTED.false,
+      le-ltb _ 64 c.if-target-ge-TARGETS.true,
+    ) (gives c.done.ensures refl)
 
 pub returns : goal.returns
 returns c =

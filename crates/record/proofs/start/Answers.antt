@@ -1,6 +1,5 @@
 -- After t turns the first t words are those of the start.
 use mathlib.Core.Path.{◌≡◌, sym}
-use Prim.Native.Nat.{◌-◌}
 use native.Mathlib.Omega.{arith}
 use Rattle.record.specs.Does.{start_word}
 use Rattle.record.proofs.Frames.{filled_none, filled_more}
@@ -11,11 +10,10 @@ loop-t-init c = (sym (filled_none _ _ _), omega arith)
 
 pub loop-t-preserved : goal.loop-t-preserved
 unfolding start_word
-loop-t-preserved c =
-    (
-      filled_more _ _ _ _ _ _ _ (omega arith) c.loop-t.invariant.0 (rw (← c.start_targets-n.ensures) c.start_word.ensures),
-      omega arith,
-    )
+loop-t-preserved c = (
+  filled_more _ _ _ _ _ _ _ (omega arith) c.loop-t.invariant.0 (rw (← c.start_targets-n.ensures) c.start_word.ensures),
+  omega arith,
+)
 
 pub returns : goal.returns
 returns c = let e : c.loop-t.t ≡ 64 = omega arith in rw e at c.loop-t.invariant.0

@@ -1,7 +1,7 @@
 -- The state pictures the stack that is reached, and the answers so far are the definition's (Going).
 use mathlib.Core.Path.{◌≡◌, refl, sym, ◌∙◌}
 use mathlib.Core.Bool.{true}
-use Prim.Native.Nat.{◌+◌, ◌-◌, ◌*◌, ◌/◌, ◌%◌, ◌≤◌, ◌<◌}
+use Prim.Native.Nat.{◌+◌, ◌*◌, ◌/◌, ◌%◌, ◌≤◌, ◌<◌}
 use native.Mathlib.Omega.{arith}
 use lib.ListN.{length, length-set}
 use Rattle.beliefs.specs.Policy.{valid}
@@ -20,7 +20,11 @@ more c = omega arith
 
 word : (c : goal.In-Word) → Reads c.args.policy.now c.args.trace.now c.loop-i.i c.in-Word.w
 word c =
-    record { more = more (goal.at.In-Word c).After-decode_at-decoded; word = sym c.in-Word.is ∙ c.decode_at-decoded.ensures; policy = (ready (goal.at.In-Word c).Start).0 }
+    record {
+      more = more (goal.at.In-Word c).After-decode_at-decoded;
+      word = sym c.in-Word.is ∙ c.decode_at-decoded.ensures;
+      policy = (ready (goal.at.In-Word c).Start).0;
+    }
 
 pub loop-i-init : goal.loop-i-init
 loop-i-init c = (omega arith, refl, start _ _ _ _)
@@ -46,8 +50,11 @@ bounds-answers-i c =
     omega (arith, ready (goal.at.bounds-answers-i c).Start, c.loop-i.invariant.1)
 
 pub loop-i-preserved : goal.loop-i-preserved
-loop-i-preserved c =
-    (omega arith, simp length-set c.loop-i.invariant.1, onward _ _ _ _ _ _ _ c.loop-i.invariant.2 _ (word (goal.at.loop-i-preserved c).In-Word) _ _ c.serve-done.ensures c.if-done-ne-ACCEPTED.false)
+loop-i-preserved c = (
+  omega arith,
+  simp length-set c.loop-i.invariant.1,
+  onward _ _ _ _ _ _ _ c.loop-i.invariant.2 _ (word (goal.at.loop-i-preserved c).In-Word) _ _ c.serve-done.ensures c.if-done-ne-ACCEPTED.false,
+)
 
 pub shape_of-answers : goal.shape_of-answers
 shape_of-answers c = c.loop-i.invariant.1

@@ -12,7 +12,8 @@ tested c = c.deeper-number.ensures ∙ ap deeper c.depth-d.ensures
 
 pub returns-then-number-ne-ACCEPTED : goal.returns-then-number-ne-ACCEPTED
 unfolding barred
-returns-then-number-ne-ACCEPTED c = rw (← tested (goal.at.returns-then-number-ne-ACCEPTED c).After-deeper-number, ne_eqb _ _ c.if-number-ne-ACCEPTED.true) (gives c.refused.ensures refl)
+returns-then-number-ne-ACCEPTED c =
+    rw (← tested (goal.at.returns-then-number-ne-ACCEPTED c).After-deeper-number, ne_eqb _ _ c.if-number-ne-ACCEPTED.true) (gives c.refused.ensures refl)
 
 pub returns : goal.returns
 unfolding barred

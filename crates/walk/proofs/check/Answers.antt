@@ -16,30 +16,29 @@ unfolding permits
 permitted c =
     c.meet.ensures.alone _ c.with-asked.ensures ∙ ap (λ (w : ℕ). bit w c.args.target) c.row.ensures
 
-enabled-here : (c : goal.After-meet-in-loop-left)
+enabled_here : (c : goal.After-meet-in-loop-left)
     → let a = c.args in
     c.meet-in-loop-left.result ≡ bit c.frame_at-frame.result.enabled a.target
-enabled-here c =
+enabled_here c =
     c.meet-in-loop-left.ensures.alone _ c.with-asked.ensures
 
-disabled-here : (c : goal.After-meet-in-loop-left-2)
+disabled_here : (c : goal.After-meet-in-loop-left-2)
     → let a = c.args in
     c.meet-in-loop-left-2.result ≡ bit c.frame_at-frame.result.disabled a.target
-disabled-here c =
+disabled_here c =
     c.meet-in-loop-left-2.ensures.alone _ c.with-asked.ensures
 
 pub loop-left-init : goal.loop-left-init
 loop-left-init c = rw c.depth-left.ensures (omega arith, start _)
 
 pub loop-left-preserved : goal.loop-left-preserved
-loop-left-preserved c =
-    (
-      omega arith,
-      onward _ _ _ _ _ _ c.loop-left.invariant.1 c.if-left-eq0.false _ c.frame_at-frame.ensures
-          (sym (permitted (goal.at.loop-left-preserved c).After-meet) ∙ c.if-not-meet.false)
-          (sym (enabled-here (goal.at.loop-left-preserved c).After-meet-in-loop-left) ∙ c.if-meet.false)
-          (sym (disabled-here (goal.at.loop-left-preserved c).After-meet-in-loop-left-2) ∙ c.if-meet-2.false),
-    )
+loop-left-preserved c = (
+  omega arith,
+  onward _ _ _ _ _ _ c.loop-left.invariant.1 c.if-left-eq0.false _ c.frame_at-frame.ensures
+      (sym (permitted (goal.at.loop-left-preserved c).After-meet) ∙ c.if-not-meet.false)
+      (sym (enabled_here (goal.at.loop-left-preserved c).After-meet-in-loop-left) ∙ c.if-meet.false)
+      (sym (disabled_here (goal.at.loop-left-preserved c).After-meet-in-loop-left-2) ∙ c.if-meet-2.false),
+)
 
 pub returns-then-left-eq0 : goal.returns-then-left-eq0
 returns-then-left-eq0 c = bottom _ _ _ _ _ _ c.loop-left.invariant.1 c.if-left-eq0.true
@@ -52,10 +51,12 @@ returns-then-not-meet c =
 pub returns-then-meet : goal.returns-then-meet
 returns-then-meet c =
     enabled _ _ _ _ _ _ c.loop-left.invariant.1 c.if-left-eq0.false _ c.frame_at-frame.ensures
-    (sym (permitted (goal.at.returns-then-meet c).After-meet) ∙ c.if-not-meet.false) (sym (enabled-here (goal.at.returns-then-meet c).After-meet-in-loop-left) ∙ c.if-meet.true)
+    (sym (permitted (goal.at.returns-then-meet c).After-meet) ∙ c.if-not-meet.false)
+    (sym (enabled_here (goal.at.returns-then-meet c).After-meet-in-loop-left) ∙ c.if-meet.true)
 
 pub returns-then-meet-2 : goal.returns-then-meet-2
 returns-then-meet-2 c =
     disabled _ _ _ _ _ _ c.loop-left.invariant.1 c.if-left-eq0.false _ c.frame_at-frame.ensures
     (sym (permitted (goal.at.returns-then-meet-2 c).After-meet) ∙ c.if-not-meet.false)
-    (sym (enabled-here (goal.at.returns-then-meet-2 c).After-meet-in-loop-left) ∙ c.if-meet.false) (sym (disabled-here (goal.at.returns-then-meet-2 c).After-meet-in-loop-left-2) ∙ c.if-meet-2.true)
+    (sym (enabled_here (goal.at.returns-then-meet-2 c).After-meet-in-loop-left) ∙ c.if-meet.false)
+    (sym (disabled_here (goal.at.returns-then-meet-2 c).After-meet-in-loop-left-2) ∙ c.if-meet-2.true)

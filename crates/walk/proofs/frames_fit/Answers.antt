@@ -1,9 +1,8 @@
 -- The marks of the frames below k together are for targets below N exactly where those frames are as number 14 asks.
 use mathlib.Core.Path.{◌≡◌, sym, ◌∙◌}
 use mathlib.Core.Bool.{false}
-use Prim.Native.Nat.{◌-◌, ◌<◌}
+use Prim.Native.Nat.{◌<◌}
 use native.Mathlib.Omega.{arith}
-use Rattle.beliefs.specs.Policy as policies
 use Rattle.beliefs.proofs.Lists.{each_false}
 use Rattle.walk.specs.Layout.{depth}
 use Rattle.walk.specs.Fits.{in_use}

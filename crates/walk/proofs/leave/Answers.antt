@@ -17,7 +17,8 @@ there : (c : goal.Else-number-ne-ACCEPTED) → c.depth-d.result ≢ 0
 there c = some_frame _ (sym c.framed-number.ensures ∙ c.if-number-ne-ACCEPTED.false)
 
 pub returns-then-number-ne-ACCEPTED : goal.returns-then-number-ne-ACCEPTED
-returns-then-number-ne-ACCEPTED c = rw (← tested (goal.at.returns-then-number-ne-ACCEPTED c).After-framed-number, ne_eqb _ _ c.if-number-ne-ACCEPTED.true) (gives c.refused.ensures refl)
+returns-then-number-ne-ACCEPTED c =
+    rw (← tested (goal.at.returns-then-number-ne-ACCEPTED c).After-framed-number, ne_eqb _ _ c.if-number-ne-ACCEPTED.true) (gives c.refused.ensures refl)
 
 pub overflow_sub-d : goal.overflow_sub-d
 overflow_sub-d c = let some = there (goal.at.overflow_sub-d c).Else-number-ne-ACCEPTED in omega arith

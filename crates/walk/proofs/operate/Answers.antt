@@ -21,7 +21,8 @@ passed c =
 pub returns-then-number-ne-ACCEPTED : goal.returns-then-number-ne-ACCEPTED
 returns-then-number-ne-ACCEPTED c =
     let a = c.args in
-    bad_state_lem by_walk _ _ _ _ _ (refused_first _ (fits a.policy.now a.state.now) _ c.refusal-number.ensures c.if-number-ne-ACCEPTED.true) c.if-number-ne-ACCEPTED.true
+    bad_state_lem by_walk _ _ _ _ _ (refused_first _
+    (fits a.policy.now a.state.now) _ c.refusal-number.ensures c.if-number-ne-ACCEPTED.true) c.if-number-ne-ACCEPTED.true
 
 pub returns-then-not-valid : goal.returns-then-not-valid
 returns-then-not-valid c =

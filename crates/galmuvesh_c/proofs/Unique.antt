@@ -1,0 +1,64 @@
+-- Each export's promise is that of the library's function of its name: the library's law of one result is a law of it as it stands. Assumes nothing.
+use Rattle.bits.proofs.Unique.{Fixes}
+use Rattle.galmuvesh.proofs.Unique as law
+use Rattle.galmuvesh_c.specs.contracts as contracts
+use Rattle.galmuvesh_c.proofs.galmuvesh_policy_read as galmuvesh_policy_read
+use Rattle.galmuvesh_c.proofs.galmuvesh_policy_cut as galmuvesh_policy_cut
+use Rattle.galmuvesh_c.proofs.galmuvesh_policy_write as galmuvesh_policy_write
+use Rattle.galmuvesh_c.proofs.galmuvesh_walk_run as galmuvesh_walk_run
+use Rattle.galmuvesh_c.proofs.galmuvesh_record_run as galmuvesh_record_run
+use Rattle.galmuvesh_c.proofs.galmuvesh_passed_run as galmuvesh_passed_run
+use Rattle.galmuvesh_c.proofs.galmuvesh_walk_operate as galmuvesh_walk_operate
+use Rattle.galmuvesh_c.proofs.galmuvesh_record_operate as galmuvesh_record_operate
+use Rattle.galmuvesh_c.proofs.galmuvesh_passed_call as galmuvesh_passed_call
+use Rattle.galmuvesh_c.proofs.galmuvesh_passed_enable as galmuvesh_passed_enable
+use Rattle.galmuvesh_c.proofs.galmuvesh_passed_disable as galmuvesh_passed_disable
+use Rattle.galmuvesh_c.proofs.galmuvesh_passed_revert as galmuvesh_passed_revert
+use Rattle.galmuvesh_c.proofs.galmuvesh_passed_check as galmuvesh_passed_check
+use Rattle.galmuvesh_c.proofs.galmuvesh_derivation_write as galmuvesh_derivation_write
+use Rattle.galmuvesh_c.proofs.galmuvesh_derivation_check as galmuvesh_derivation_check
+
+pub galmuvesh_policy_read_unique : Fixes contracts.galmuvesh_policy_read.ended galmuvesh_policy_read.Reads.Post
+galmuvesh_policy_read_unique = law.galmuvesh_policy_read_unique
+
+pub galmuvesh_policy_cut_unique : Fixes contracts.galmuvesh_policy_cut.ended galmuvesh_policy_cut.Reads.Post
+galmuvesh_policy_cut_unique = law.galmuvesh_policy_cut_unique
+
+pub galmuvesh_policy_write_unique : Fixes contracts.galmuvesh_policy_write.ended galmuvesh_policy_write.Reads.Post
+galmuvesh_policy_write_unique = law.galmuvesh_policy_write_unique
+
+pub galmuvesh_walk_run_unique : Fixes contracts.galmuvesh_walk_run.ended galmuvesh_walk_run.Reads.Post
+galmuvesh_walk_run_unique = law.galmuvesh_walk_run_unique
+
+pub galmuvesh_record_run_unique : Fixes contracts.galmuvesh_record_run.ended galmuvesh_record_run.Reads.Post
+galmuvesh_record_run_unique = law.galmuvesh_record_run_unique
+
+pub galmuvesh_passed_run_unique : Fixes contracts.galmuvesh_passed_run.ended galmuvesh_passed_run.Reads.Post
+galmuvesh_passed_run_unique = law.galmuvesh_passed_run_unique
+
+pub galmuvesh_walk_operate_unique : Fixes contracts.galmuvesh_walk_operate.ended galmuvesh_walk_operate.Reads.Post
+galmuvesh_walk_operate_unique = law.galmuvesh_walk_operate_unique
+
+pub galmuvesh_record_operate_unique : Fixes contracts.galmuvesh_record_operate.ended galmuvesh_record_operate.Reads.Post
+galmuvesh_record_operate_unique = law.galmuvesh_record_operate_unique
+
+pub galmuvesh_passed_call_unique : Fixes contracts.galmuvesh_passed_call.ended galmuvesh_passed_call.Reads.Post
+galmuvesh_passed_call_unique = law.galmuvesh_passed_call_unique
+
+pub galmuvesh_passed_enable_unique : Fixes contracts.galmuvesh_passed_enable.ended galmuvesh_passed_enable.Reads.Post
+galmuvesh_passed_enable_unique = law.galmuvesh_passed_enable_unique
+
+pub galmuvesh_passed_disable_unique : Fixes contracts.galmuvesh_passed_disable.ended galmuvesh_passed_disable.Reads.Post
+galmuvesh_passed_disable_unique = law.galmuvesh_passed_disable_unique
+
+pub galmuvesh_passed_revert_unique : Fixes contracts.galmuvesh_passed_revert.ended galmuvesh_passed_revert.Reads.Post
+galmuvesh_passed_revert_unique = law.galmuvesh_passed_revert_unique
+
+pub galmuvesh_passed_check_unique : Fixes contracts.galmuvesh_passed_check.ended galmuvesh_passed_check.Reads.Post
+galmuvesh_passed_check_unique = law.galmuvesh_passed_check_unique
+
+pub galmuvesh_derivation_write_unique : Fixes contracts.galmuvesh_derivation_write.ended galmuvesh_derivation_write.Reads.Post
+galmuvesh_derivation_write_unique = law.galmuvesh_derivation_write_unique
+
+pub galmuvesh_derivation_check_unique : Fixes contracts.galmuvesh_derivation_check.ended galmuvesh_derivation_check.Reads.Post
+galmuvesh_derivation_check_unique = law.galmuvesh_derivation_check_unique
