@@ -3,10 +3,10 @@
 // list is decimal numbers, or bytes of two hexadecimal digits; `x62` after a value says that it stands 62 times in all.
 #![tactic(auto)]
 
-ghost use Rattle.std.specs.Prelude.{◌+◌, ◌-◌, ◌≤◌, length};
+ghost use Rattle.std.specs.Prelude.{◌+◌, ◌-◌, ◌≤◌, length, IfOk};
 
 use galmuvesh::*;
-use libc::STDOUT_FILENO;
+use std::io;
 
 // The words of the commands, a byte for each letter: six that set something, six that take bytes, seven that take one number.
 const POLICY: u64 = 0x706F_6C69_6379;
@@ -59,6 +59,9 @@ const ROOM_MOST: usize = 260;
 // The most values of a command, its word with them: one more than a belief record has.
 const LIST_MOST: usize = 4097;
 
+// The longest input that is read.
+const INPUT_MOST: usize = 65536;
+
 const DIGITS: [u8; 16] = *b"0123456789ABCDEF";
 
 type Policy = [u64; policy::WORDS];
@@ -68,24 +71,24 @@ type Walk = [u64; walk::WORDS];
 type Record = [u64; record::WORDS];
 
 // One letter: the prover takes a number more quickly than a text.
-fn put(letter: u8) {
+fn put(rt: &impl Print, letter: u8) -> io::Result<()> {
     let one = [letter];
-    io::write_all(STDOUT_FILENO, &one);
+    rt.write_all(&one)
 }
 
 // What stands for a command that is not understood.
-fn unknown() {
-    io::write_all(STDOUT_FILENO, b" ?");
+fn unknown(rt: &impl Print) -> io::Result<()> {
+    rt.write_all(b" ?")
 }
 
 // A letter, and a number in decimal or a byte in document 01's hexadecimal.
-fn value(before: u8, n: u64, base: u64) {
-    put(before);
+fn value(rt: &impl Print, before: u8, n: u64, base: u64) -> io::Result<()> {
+    put(rt, before)?;
     if base == 16 {
-        put(DIGITS[(n / 16 % 16) as usize]);
-        put(DIGITS[(n % 16) as usize]);
+        put(rt, DIGITS[(n / 16 % 16) as usize])?;
+        put(rt, DIGITS[(n % 16) as usize])
     } else {
-        io::print_decimal(STDOUT_FILENO, n);
+        rt.print(n)
     }
 }
 
@@ -102,36 +105,36 @@ fn common(a: &[u64], b: &[u64]) -> usize
 }
 
 // A list, in which more than four equal values in a row are told once, with their count.
-fn told(list: &[u64], base: u64) {
-    put(b' ');
+fn told(rt: &impl Print, list: &[u64], base: u64) -> io::Result<()> {
+    put(rt, b' ')?;
     let mut before = b'[';
     let mut i: usize = 0;
     while i < list.len() {
-        value(before, list[i], base);
+        value(rt, before, list[i], base)?;
         before = b' ';
         let from = i;
         i += 1;
         let more = common(&list[i..], &list[from..]);
         if 3 < more {
-            put(b' ');
-            value(b'x', more as u64 + 1, 10);
+            put(rt, b' ')?;
+            value(rt, b'x', more as u64 + 1, 10)?;
             i += more;
         }
     }
     if i == 0 {
-        put(before);
+        put(rt, before)?;
     }
-    put(b']');
+    put(rt, b']')
 }
 
 // A list of bytes, of which no case has more than a list holds.
-fn bytes_told(bytes: &[u8]) {
+fn bytes_told(rt: &impl Print, bytes: &[u8]) -> io::Result<()> {
     let mut list = [0u64; LIST_MOST];
     let count = bytes.len() % LIST_MOST;
     for i in 0..count {
         list[i] = bytes[i] as u64;
     }
-    told(&list[0..count], 16);
+    told(rt, &list[0..count], 16)
 }
 
 // Where a mark stands first from an index on: the length where it does not.
@@ -224,13 +227,14 @@ fn values(text: &[u8], list: &mut [u64; LIST_MOST], bytes: &mut [u8]) -> usize
 }
 
 // The words after a command's own, so many as there are, and zeros.
-fn set(to: &mut [u64], list: &[u64; LIST_MOST], count: usize) {
+fn set(rt: &impl Print, to: &mut [u64], list: &[u64; LIST_MOST], count: usize) -> io::Result<()> {
     if to.len() + 1 < count {
-        unknown();
+        unknown(rt)?;
     }
     for i in 0..to.len() {
         to[i] = list[(i + 1) % LIST_MOST];
     }
+    Ok(())
 }
 
 // The one value after a command's word: the largest of all where it has none or more, which no command takes.
@@ -251,78 +255,112 @@ fn written(what: u64, p: &Policy, w: &Walk, t: u8, bytes: &[u8], to: &mut [u8], 
 }
 
 // A buffer of some room lent to be written into, or steps to be checked: number and figure, and the bytes.
-fn write(what: u64, p: &Policy, w: &Walk, target: u64, bytes: &[u8], room: u64) {
+fn write(
+    rt: &impl Print,
+    what: u64,
+    p: &Policy,
+    w: &Walk,
+    target: u64,
+    bytes: &[u8],
+    room: u64,
+) -> io::Result<()> {
     let mut space = [LENT; ROOM_MOST];
     if 255 < target || (ROOM_MOST as u64) < room {
-        unknown();
-        return;
+        return unknown(rt);
     }
     let end = room as usize;
     let buffer = &mut space[0..end];
     let mut figure = MOST;
     let number = written(what, p, w, target as u8, bytes, buffer, &mut figure);
     if what == STEPS {
-        bytes_told(bytes);
+        bytes_told(rt, bytes)?;
     }
-    value(b' ', number as u64, 10);
-    value(b' ', figure, 10);
+    value(rt, b' ', number as u64, 10)?;
+    value(rt, b' ', figure, 10)?;
     if what != STEPS {
-        bytes_told(buffer);
+        bytes_told(rt, buffer)?;
     }
+    Ok(())
 }
 
 // One operation: number, answer, and the state, `kept` where it came back as it was.
-fn operated(name: &[u8], number: u8, answer: u8, before: &[u64], after: &[u64]) {
-    io::write_all(STDOUT_FILENO, name);
-    value(b' ', number as u64, 10);
-    value(b' ', answer as u64, 16);
+fn operated(
+    rt: &impl Print,
+    name: &[u8],
+    number: u8,
+    answer: u8,
+    before: &[u64],
+    after: &[u64],
+) -> io::Result<()> {
+    rt.write_all(name)?;
+    value(rt, b' ', number as u64, 10)?;
+    value(rt, b' ', answer as u64, 16)?;
     if common(after, before) == after.len() {
-        io::write_all(STDOUT_FILENO, b" kept");
+        rt.write_all(b" kept")
     } else {
-        told(after, 10);
+        told(rt, after, 10)
     }
 }
 
 // A word by walk and record: what became of it on the one asked, or, where it leads to a state, `?` if either refuses it.
-fn step(who: u64, p: &Policy, walk: &Walk, record: &Record, w: &mut Walk, r: &mut Record, op: u16) {
+fn step(
+    rt: &impl Print,
+    who: u64,
+    p: &Policy,
+    walk: &Walk,
+    record: &Record,
+    w: &mut Walk,
+    r: &mut Record,
+    op: u16,
+) -> io::Result<()> {
     let mut a = LENT;
     let mut b = LENT;
     let m = galmuvesh_walk_operate(p, w, op, &mut a);
     let n = galmuvesh_record_operate(p, r, op, &mut b);
     if who == WALKS {
-        operated(b" walk", m, a, walk, w);
+        operated(rt, b" walk", m, a, walk, w)
     } else if who == RECORDS {
-        operated(b" record", n, b, record, r);
+        operated(rt, b" record", n, b, record, r)
     } else if m | n != 0 {
-        unknown();
+        unknown(rt)
+    } else {
+        Ok(())
     }
 }
 
 // Words in order: one, or as many as lead to a state. Only those that lead to states change them.
-fn steps(who: u64, p: &Policy, w: &mut Walk, r: &mut Record, bytes: &[u8]) {
+fn steps(
+    rt: &impl Print,
+    who: u64,
+    p: &Policy,
+    w: &mut Walk,
+    r: &mut Record,
+    bytes: &[u8],
+) -> io::Result<()> {
     let walk = *w;
     let record = *r;
     if bytes.len() % 2 != 0 || bytes.len() != 2 && (who != AFTER || bytes.len() == 0) {
-        unknown();
+        unknown(rt)?;
     }
     for i in 0..bytes.len() / 2 {
         let at = 2 * i;
         let op = 256 * (bytes[at] as u16) + bytes[at + 1] as u16;
-        step(who, p, &walk, &record, w, r, op);
+        step(rt, who, p, &walk, &record, w, r, op)?;
     }
     if who != AFTER {
         *w = walk;
         *r = record;
     }
+    Ok(())
 }
 
 // The bytes of what becomes the policy, the number, and the value, which is lent as 35 sevens.
-fn read(bytes: &[u8], p: &mut Policy) {
+fn read(rt: &impl Print, bytes: &[u8], p: &mut Policy) -> io::Result<()> {
     *p = [7u64; policy::WORDS];
     let number = galmuvesh_policy_read(bytes, p);
-    bytes_told(bytes);
-    value(b' ', number as u64, 10);
-    told(p, 10);
+    bytes_told(rt, bytes)?;
+    value(rt, b' ', number as u64, 10)?;
+    told(rt, p, 10)
 }
 
 // An operation on a passed state.
@@ -337,33 +375,35 @@ fn moved(word: u64, p: &Policy, s: &mut [u64; 4], of: u8, answer: &mut u8) -> u8
 }
 
 // Its number, and where that is 0 the state that it gives, or the answer of a check.
-fn pass(word: u64, p: &Policy, s: &mut [u64; 4], of: u64) {
+fn pass(rt: &impl Print, word: u64, p: &Policy, s: &mut [u64; 4], of: u64) -> io::Result<()> {
     if 255 < of {
-        unknown();
-        return;
+        return unknown(rt);
     }
     let mut answer = LENT;
     let number = moved(word, p, s, of as u8, &mut answer);
-    value(b' ', number as u64, 10);
+    value(rt, b' ', number as u64, 10)?;
     if number == 0 && word == CHECK {
-        value(b' ', answer as u64, 16);
+        value(rt, b' ', answer as u64, 16)
     } else if number == 0 {
-        told(s, 10);
+        told(rt, s, 10)
+    } else {
+        Ok(())
     }
 }
 
 // A trace by each engine.
-fn run(p: &Policy, w: &Walk, trace: &[u8], room: u64) {
-    io::write_all(STDOUT_FILENO, b" walk");
-    write(WALK, p, w, 0, trace, room);
-    io::write_all(STDOUT_FILENO, b" record");
-    write(RECORD, p, w, 0, trace, room);
-    io::write_all(STDOUT_FILENO, b" passed");
-    write(PASSED, p, w, 0, trace, room);
+fn run(rt: &impl Print, p: &Policy, w: &Walk, trace: &[u8], room: u64) -> io::Result<()> {
+    rt.write_all(b" walk")?;
+    write(rt, WALK, p, w, 0, trace, room)?;
+    rt.write_all(b" record")?;
+    write(rt, RECORD, p, w, 0, trace, room)?;
+    rt.write_all(b" passed")?;
+    write(rt, PASSED, p, w, 0, trace, room)
 }
 
 // Whether a command says what stands: a policy, a state, a figure. It then stands as the command's values say.
 fn stated(
+    rt: &impl Print,
     list: &[u64; LIST_MOST],
     count: usize,
     p: &mut Policy,
@@ -371,24 +411,25 @@ fn stated(
     r: &mut Record,
     s: &mut [u64; 4],
     n: &mut u64,
-) -> bool {
+) -> io::Result<bool> {
     match list[0] {
-        POLICY => set(p, list, count),
-        WALK => set(w, list, count),
-        RECORD => set(r, list, count),
-        PASSED => set(s, list, count),
+        POLICY => set(rt, p, list, count)?,
+        WALK => set(rt, w, list, count)?,
+        RECORD => set(rt, r, list, count)?,
+        PASSED => set(rt, s, list, count)?,
         ROOM | TARGET => {
             *n = single(list, count);
         }
         _ => {
-            return false;
+            return Ok(false);
         }
     }
-    true
+    Ok(true)
 }
 
 // A command that asks something of what stands, with its one value or its bytes, and the figure said before.
 fn asked(
+    rt: &impl Print,
     word: u64,
     one: u64,
     bytes: &[u8],
@@ -397,81 +438,115 @@ fn asked(
     r: &mut Record,
     s: &mut [u64; 4],
     n: u64,
-) {
+) -> io::Result<()> {
     match word {
-        AFTER | WALKS | RECORDS => steps(word, p, w, r, bytes),
-        READ => read(bytes, p),
-        RUN => run(p, w, bytes, n),
-        STEPS => write(STEPS, p, w, n, bytes, 0),
-        WRITE => write(WRITE, p, w, 0, bytes, one),
-        DERIVE => write(DERIVE, p, w, n, bytes, one),
-        CALL | ENABLE | DISABLE | REVERT | CHECK => pass(word, p, s, one),
-        _ => unknown(),
+        AFTER | WALKS | RECORDS => steps(rt, word, p, w, r, bytes),
+        READ => read(rt, bytes, p),
+        RUN => run(rt, p, w, bytes, n),
+        STEPS => write(rt, STEPS, p, w, n, bytes, 0),
+        WRITE => write(rt, WRITE, p, w, 0, bytes, one),
+        DERIVE => write(rt, DERIVE, p, w, n, bytes, one),
+        CALL | ENABLE | DISABLE | REVERT | CHECK => pass(rt, word, p, s, one),
+        _ => unknown(rt),
     }
 }
 
 // A command: a space, its word, and its list. Room and target are one number, the last that was said.
-fn obey(text: &[u8], p: &mut Policy, w: &mut Walk, r: &mut Record, s: &mut [u64; 4], n: &mut u64) {
+fn obey(
+    rt: &impl Print,
+    text: &[u8],
+    p: &mut Policy,
+    w: &mut Walk,
+    r: &mut Record,
+    s: &mut [u64; 4],
+    n: &mut u64,
+) -> io::Result<()> {
     let mut list = [0u64; LIST_MOST];
     let mut space = [0u8; LIST_MOST];
     let count = values(text, &mut list, &mut space);
     if LIST_MOST < count || find(text, 0, b' ') != 0 {
-        unknown();
-        return;
+        return unknown(rt);
     }
-    if !stated(&list, count, p, w, r, s, n) {
-        asked(
-            list[0],
-            single(&list, count),
-            &space[1..count],
-            p,
-            w,
-            r,
-            s,
-            *n,
-        );
+    if stated(rt, &list, count, p, w, r, s, n)? {
+        return Ok(());
     }
+    asked(
+        rt,
+        list[0],
+        single(&list, count),
+        &space[1..count],
+        p,
+        w,
+        r,
+        s,
+        *n,
+    )
 }
 
 // A line's name told, and where its commands begin. A line without a bar after a name is told as it is.
-fn name(line: &[u8]) -> usize {
+fn name(rt: &impl Print, line: &[u8]) -> io::Result<usize> {
     let bar = find(line, 0, b'|');
     if bar == 0 || bar == line.len() {
-        io::write_all(STDOUT_FILENO, line);
-        return line.len();
+        rt.write_all(line)?;
+        return Ok(line.len());
     }
     let end = bar - 1;
-    io::write_all(STDOUT_FILENO, &line[0..end]);
-    put(b':');
-    bar + 1
+    rt.write_all(&line[0..end])?;
+    put(rt, b':')?;
+    Ok(bar + 1)
 }
 
 // A line. Each case begins with the document's policy and with fresh states, so that it says all that it needs.
-fn case(line: &[u8]) {
+fn case(rt: &impl Print, line: &[u8]) -> io::Result<()> {
     let mut p = [0u64; policy::WORDS];
     let mut w = [0u64; walk::WORDS];
     let mut r = [0u64; record::WORDS];
     let mut s = [0u64; 4];
     let mut n: u64 = 0;
-    obey(b" policy 0 3 2 3 1", &mut p, &mut w, &mut r, &mut s, &mut n);
-    let mut at = name(line);
+    obey(
+        rt,
+        b" policy 0 3 2 3 1",
+        &mut p,
+        &mut w,
+        &mut r,
+        &mut s,
+        &mut n,
+    )?;
+    let mut at = name(rt, line)?;
     while at < line.len() {
         let end = find(line, at, b';');
-        obey(&line[at..end], &mut p, &mut w, &mut r, &mut s, &mut n);
+        obey(rt, &line[at..end], &mut p, &mut w, &mut r, &mut s, &mut n)?;
         at = end + 1;
     }
+    Ok(())
+}
+
+// Reads until the buffer is full or the input ends: how many bytes it put at the buffer's start.
+fn read_full(input: &mut impl io::Read, buffer: &mut [u8]) -> io::Result<usize>
+    ensures { IfOk result (λ n. n ≤ length buffer.new) }
+{
+    let mut done: usize = 0;
+    while done < buffer.len() {
+        let n = input.read(&mut buffer[done..])?;
+        if n == 0 {
+            break;
+        }
+        done += n;
+    }
+    Ok(done)
 }
 
 // Each line with what became of it.
-fn main() {
-    let mut input = io::large_buffer();
-    let len = io::read_full(libc::STDIN_FILENO, &mut input);
+fn main(rt: HostRuntime) -> io::Result<()> {
+    let mut input = [0u8; INPUT_MOST];
+    let len = read_full(&mut rt.stdin(), &mut input)?;
     let text = &input[0..len];
     let mut at: usize = 0;
     while at < text.len() {
         let end = find(text, at, b'\n');
-        case(&text[at..end]);
-        put(b'\n');
+        case(&rt, &text[at..end])?;
+        put(&rt, b'\n')?;
         at = end + 1;
     }
+    Ok(())
 }

@@ -1,68 +1,91 @@
 // The listing program: reads a policy followed by a trace, and prints what became of each check.
 #![tactic(auto)]
 
+ghost use Rattle.std.specs.Prelude.{◌≤◌, length};
+
 use answers::Report;
-use libc::{STDIN_FILENO, STDOUT_FILENO};
 use policy::Policy;
+use std::io;
+use std::io::Read;
 
 // The longest input, which is also the length of the buffers for input and output.
 const INPUT_MOST: usize = 65536;
 
+// Reads until the buffer is full, the input ends or a read fails, which counts as the end: how many bytes it put at the buffer's
+// start.
+fn read_full(input: &mut impl Read, buffer: &mut [u8]) -> usize
+    ensures { result ≤ length buffer.new }
+{
+    let mut done: usize = 0;
+    while done < buffer.len() {
+        match input.read(&mut buffer[done..]) {
+            Ok(n) if n != 0 => done += n,
+            _ => return done,
+        }
+    }
+    done
+}
+
 // Whether there is input past what was read.
-fn more_follows() -> bool {
+fn more_follows(input: &mut impl Read) -> bool {
     let mut next = [0u8; 1];
-    io::read_full(STDIN_FILENO, &mut next) != 0
+    read_full(input, &mut next) != 0
 }
 
 // The only line of an input that is refused as a whole.
-fn print_refused(number: u8) {
+fn print_refused(rt: &impl Print, number: u8) -> io::Result<()> {
     let mut line = [0u8; lines::LINE_MOST];
     let len = lines::refused_line(number, 0, &mut line);
-    io::write_all(STDOUT_FILENO, &line[..len]);
+    rt.write_all(&line[..len])
 }
 
 // One write for each page. It stops where the text ends, or where the output takes no more.
-fn print_pages(policy: &Policy, trace: &[u8], answers: &[u8], report: Report) {
-    let mut page = io::large_buffer();
+fn print_pages(
+    rt: &impl Print,
+    policy: &Policy,
+    trace: &[u8],
+    answers: &[u8],
+    report: Report,
+) -> io::Result<()> {
+    let mut page = [0u8; INPUT_MOST];
     let mut place: usize = 0;
     loop {
         let filled = lines::fill(policy, trace, answers, report, place, &mut page);
         let len = filled.len;
         if filled.next == place {
-            return;
+            return Ok(());
         }
-        if !io::write_all(STDOUT_FILENO, &page[..len]) {
-            return;
-        }
+        rt.write_all(&page[..len])?;
         place = filled.next;
     }
 }
 
 // Runs the trace, with room for an answer to each word of the longest input.
-fn print_run(policy: &Policy, trace: &[u8]) {
+fn print_run(rt: &impl Print, policy: &Policy, trace: &[u8]) -> io::Result<()> {
     let mut answers = [0u8; 32768];
     let report = runner::walk_run(policy, trace, &mut answers);
-    print_pages(policy, trace, &answers, report);
+    print_pages(rt, policy, trace, &answers, report)
 }
 
 // The policy, and where it is accepted the run of the trace after it.
-fn print_listing(input: &[u8]) {
+fn print_listing(rt: &impl Print, input: &[u8]) -> io::Result<()> {
     let mut policy = [0u64; policy::WORDS];
     let cut = policy::cut(input);
     let number = policy::read(&input[..cut], &mut policy);
     if number != answers::ACCEPTED {
-        print_refused(number);
-        return;
+        return print_refused(rt, number);
     }
-    print_run(&policy, &input[cut..]);
+    print_run(rt, &policy, &input[cut..])
 }
 
-fn main() {
-    let mut input = io::large_buffer();
-    let len = io::read_full(STDIN_FILENO, &mut input);
-    if len == INPUT_MOST && more_follows() {
-        print_refused(answers::LEFT_OVER);
-        return;
-    }
-    print_listing(&input[..len]);
+// An output that takes no more ends the program, and quietly.
+fn main(rt: HostRuntime) {
+    let mut stdin = rt.stdin();
+    let mut input = [0u8; INPUT_MOST];
+    let len = read_full(&mut stdin, &mut input);
+    let _ = if len == INPUT_MOST && more_follows(&mut stdin) {
+        print_refused(&rt, answers::LEFT_OVER)
+    } else {
+        print_listing(&rt, &input[..len])
+    };
 }
