@@ -1,7 +1,8 @@
 // The listing program: reads a policy followed by a trace, and prints what became of each check.
 #![tactic(auto)]
 
-ghost use Rattle.std.specs.Prelude.{◌≤◌, length};
+ghost use Rattle.std.specs.Prelude.{◌≤◌, length, take};
+ghost use Rattle.std.specs.Io.KnownBytes.{Consumes};
 
 use answers::Report;
 use policy::Policy;
@@ -12,15 +13,16 @@ use std::io::Read;
 const INPUT_MOST: usize = 65536;
 
 // Reads until the buffer is full, the input ends or a read fails, which counts as the end: how many bytes it put at the buffer's
-// start.
-fn read_full(input: &mut impl Read, buffer: &mut [u8]) -> usize
-    ensures { result ≤ length buffer.new }
+// start. They are those that the input then no longer has.
+fn read_full<R: Read>(input: &mut R, buffer: &mut [u8]) -> usize
+    ensures bound { result ≤ length buffer.new }
+    ensures bytes { Consumes (R.remaining input.old) (R.remaining input.new) (take result buffer.new) }
 {
     let mut done: usize = 0;
     while done < buffer.len() {
         match input.read(&mut buffer[done..]) {
-            Ok(n) if n != 0 => done += n,
-            _ => return done,
+            Ok(0) | Err(_) => return done,
+            Ok(n) => done += n,
         }
     }
     done
