@@ -34,7 +34,8 @@ soak: $(ARCHIVE) ## compare the library with the second reading from fresh seeds
 lib: $(ARCHIVE) ## the archive for C hosts on x86-64
 
 $(ARCHIVE): $(SOURCES)
-	cd crates/galmuvesh_c && rt lib
+	@mkdir -p target
+	cd crates/galmuvesh_c && rt lib >../../target/archive.log 2>&1 || { cat ../../target/archive.log; exit 1; }
 	install -D -m 644 crates/galmuvesh_c/out/libgalmuvesh_c.a $@
 
 # a program is linked where it is first run
