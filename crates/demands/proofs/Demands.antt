@@ -9,17 +9,16 @@ use Prim.Native.Nat.{ℕ, suc, ◌+◌, ◌*◌, ◌/◌, ◌%◌, ◌≤◌, �
 use native.Mathlib.Omega.{arith}
 use lib.ListN.{length, length-map, get_or, take}
 use lib.Seq.{sets}
-use borrow.Author.Tests.{eq-eqb, ne_eqb, lt-ltb}
+use borrow.Author.Tests.{eq-eqb, ne_eqb}
 use Rattle.answers.specs.Answer.{kind_of, verdict_byte}
 use Rattle.words.specs.declared.Operation.{Operation}
 use Rattle.words.specs.declared.Operation.TheVariants.{Check}
 use Rattle.words.specs.declared.Decoded.{Decoded}
 use Rattle.words.specs.declared.Decoded.TheVariants.{Word}
-use Rattle.words.specs.Words.{outside, barred}
 use Rattle.words.proofs.Words.{decoded_fair}
 use Rattle.beliefs.specs.Policy.{Policy, Target, signers, targets, valid, outside_of, reading, read_number}
 use Rattle.beliefs.specs.Stack.{Frame, Stack, marked, granted, walk}
-use Rattle.beliefs.specs.Trace.{does, step, served}
+use Rattle.beliefs.specs.Trace.{step, served}
 use Rattle.beliefs.specs.Derivation.{judged}
 use Rattle.beliefs.specs.Engine.{Answers, Operate}
 use Rattle.beliefs.proofs.Counts.{looked_le}
@@ -228,21 +227,17 @@ module _ (p : Policy) (v : valid p ≡ true) where
 
     pub passed_verdict : (s : List ℕ) (kept : List (List ℕ)) → PassedLived p (s ∷ kept) (f ∷ r) → (lent n byte : ℕ) → Asks p s t n lent byte
         → (n ≡ 0) × (byte ≡ verdict_byte verdict 0)
-    unfolding does outside barred
-    passed_verdict s kept h lent n byte o =
-        let some : length (f ∷ r) ≢ 0 = omega arith in
-        let a = rw (lt-ltb t (targets p) l, ne_eqb (length (f ∷ r)) 0 some) at (passed_answers s kept (f ∷ r) h t n lent byte o) in
-        let accepted : n ≡ 0 = a.numbered.number in
-        (accepted, a.answer ∙ rw accepted)
+    passed_verdict s kept h lent n byte o = live.asked_answered p f r t l lent n byte (passed_answers s kept (f ∷ r) h t n lent byte o)
 
     pub one_verdict_live : (s q x : List ℕ) (kept : List (List ℕ)) → Lived by_walk p s (f ∷ r) → Lived by_record p q (f ∷ r) → PassedLived p (x ∷ kept) (f ∷ r)
         → (lent n m k of_walk of_record of_passed : ℕ) (left left' : List ℕ)
         → Operate by_walk p s (check_word t) lent n of_walk left → Operate by_record p q (check_word t) lent m of_record left' → Asks p x t k lent of_passed
         → (n ≡ 0) × (m ≡ 0) × (k ≡ 0) × (of_walk ≡ verdict_byte verdict count) × (of_record ≡ verdict_byte verdict 0) × (of_passed ≡ verdict_byte verdict 0)
     one_verdict_live s q x kept h h' h'' lent n m k of_walk of_record of_passed left left' o o' o'' =
-        let walked = walk_verdict s h lent n of_walk left o in
-        let recorded = record_verdict q h' lent m of_record left' o' in
-        let passed = passed_verdict x kept h'' lent k of_passed o'' in
+        let few = (ranges p v).targets_most in
+        let walked = live.check_answered true p f r t l few lent n of_walk (walk_answers s (f ∷ r) h (check_word t) lent n of_walk left o) in
+        let recorded = live.check_answered false p f r t l few lent m of_record (record_answers q (f ∷ r) h' (check_word t) lent m of_record left' o') in
+        let passed = live.asked_answered p f r t l lent k of_passed (passed_answers x kept (f ∷ r) h'' t k lent of_passed o'') in
         (walked.0, recorded.0, passed.0, walked.1, recorded.1, passed.1)
 
 -- "A policy has exactly one byte form, and comes back the same when written and read": bytes that are read as one value are the same bytes; what is
@@ -289,7 +284,7 @@ pub shown : (p : Policy) → valid p ≡ true → (s : List ℕ) (f : Frame) (r 
 shown p v s f r h t l lent m byte left o =
     let is = walk_live p v s (f ∷ r) h in
     let deep : get_or s 0 0 ≡ suc (length r) = is.pictures.deep in
-    let answer = walk_verdict p v f r t l s h lent m byte left o in
+    let answer = live.check_answered true p f r t l (ranges p v).targets_most lent m byte (walk_answers p v s (f ∷ r) h (check_word t) lent m byte left o) in
     let few : (walk p t (map marked (f ∷ r))).looked ≤ 63 = omega (arith, looked_le p t (map marked (f ∷ r)), length-map (f ∷ r) marked, is.pictures.room) in
     let whole : byte ≡ kind_of (granted p t (f ∷ r)) * 64 + (walk p t (map marked (f ∷ r))).looked = answer.1 in
     let count : byte % 64 ≡ (walk p t (map marked (f ∷ r))).looked = omega arith in

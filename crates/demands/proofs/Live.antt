@@ -22,7 +22,7 @@ use Rattle.beliefs.specs.Trace.{does, step, served}
 use Rattle.beliefs.specs.Engine.{Engine, acts, worded, Answers, Operate}
 use Rattle.beliefs.proofs.Engine.{step_number, step_state}
 use Rattle.beliefs.proofs.Policy.{let_in_with, refused_by_lem}
-use Rattle.demands.specs.Live.{Reached, fresh, moved, outcome, next, Lived, zeros, word, Live, Answered, check_word}
+use Rattle.demands.specs.Live.{Reached, fresh, moved, outcome, asked, next, Lived, zeros, word, Live, Answered, check_word}
 
 -- a word refuses by 8 at most
 served_number : (counts : Bool) (p : Policy) (st : Stack) (d : Decoded) → number_of d ≤ 6 → (served (step counts p) d st).number ≤ 8
@@ -62,6 +62,16 @@ check_answered counts p f r t l few lent n byte a =
     ap (λ (d : Decoded). served (step counts p) d (f ∷ r)) (check_decoded p t l few) ∙ rw (ne_eqb _ 0 some) in
     let accepted : n ≡ 0 = a.numbered.number ∙ ap (λ (m : Moved Stack). m.number) same in
     (accepted, a.answer ∙ rw (accepted, same))
+
+-- by the passed state likewise, which does not count
+pub asked_answered : (p : Policy) (f : Frame) (r : Stack) (t : Target) → t < targets p → (lent n byte : ℕ) → Answered (asked p (Check t) (f ∷ r)) lent n byte
+    → (n ≡ 0) × (byte ≡ verdict_byte (granted p t (f ∷ r)) 0)
+unfolding does outside barred
+asked_answered p f r t l lent n byte b =
+    let some : length (f ∷ r) ≢ 0 = omega arith in
+    let a = rw (lt-ltb t (targets p) l, ne_eqb (length (f ∷ r)) 0 some) at b in
+    let accepted : n ≡ 0 = a.numbered.number in
+    (accepted, a.answer ∙ rw accepted)
 
 module _ (e : Engine) (p : Policy) where
   -- where neither 13 nor 14 refuses a word, policy and state have passed them

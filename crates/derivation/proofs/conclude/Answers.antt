@@ -1,6 +1,7 @@
 -- A chain that was taken, and is empty.
 use borrow.Author.Tests.{not-true, not-false, eq-eqb, ne_eqb}
-use mathlib.Core.Path.{refl}
+use native.Mathlib.Omega.{arith}
+use mathlib.Core.Path.{◌≡◌, refl}
 use Rattle.derivation.proofs.conclude.Goals as goal
 
 pub returns-then-not-chain : goal.returns-then-not-chain
@@ -13,7 +14,6 @@ returns-then-chain-ne0 c = rw (not-false c.args.chain.taken c.if-not-chain.false
 })
 
 pub returns : goal.returns
-returns c = rw (not-false c.args.chain.taken c.if-not-chain.false, eq-eqb _ 0 c.if-chain-ne0.false) (record {
-  number = refl;
-  figure = refl;
-})
+returns c =
+    let empty : c.args.chain.len ≡ 0 = omega arith in
+    rw (not-false c.args.chain.taken c.if-not-chain.false, eq-eqb _ 0 empty) (record { number = refl; figure = refl })

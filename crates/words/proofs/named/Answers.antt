@@ -1,5 +1,7 @@
 -- Each arm has the word's operation number, and the last none of 0 to 4.
 use borrow.Author.Tests.{ne_eqb}
+use native.Mathlib.Omega.{arith}
+use Prim.Native.Nat.{◌/◌, ◌≤◌}
 use Rattle.words.specs.Words.{operation_of}
 use Rattle.words.proofs.named.Goals as goal
 
@@ -26,10 +28,6 @@ returns-in-4 c = rw c.in-4.is
 pub returns-in_default : goal.returns-in_default
 unfolding operation_of
 returns-in_default c =
-    rw (
-      ne_eqb _ 0 c.in_default.in_default-own.rest.0.0.0.0.1,
-      ne_eqb _ 1 c.in_default.in_default-own.rest.0.0.0.1,
-      ne_eqb _ 2 c.in_default.in_default-own.rest.0.0.1,
-      ne_eqb _ 3 c.in_default.in_default-own.rest.0.1,
-      ne_eqb _ 4 c.in_default.in_default-own.rest.1,
-    )
+    let n = c.args.word / 8192 in
+    let past : 5 ≤ n = omega arith in
+    rw (ne_eqb n 0 (omega arith), ne_eqb n 1 (omega arith), ne_eqb n 2 (omega arith), ne_eqb n 3 (omega arith), ne_eqb n 4 (omega arith))

@@ -1,7 +1,8 @@
 -- Each way out knows which of the three fields are zero and which operation it is.
 use borrow.Author.Tests.{eq-eqb, ne_eqb, le-ltb}
 use native.Mathlib.Omega.{arith}
-use Prim.Native.Nat.{◌/◌, ◌≤◌}
+use mathlib.Core.Path.{◌≡◌}
+use Prim.Native.Nat.{◌/◌, ◌%◌, ◌≤◌}
 use Rattle.words.specs.Words.{stray_in}
 use Rattle.words.proofs.stray.Goals as goal
 
@@ -25,4 +26,5 @@ pub returns : goal.returns
 unfolding stray_in
 returns c =
     let more : 2 ≤ c.args.word / 8192 = omega arith in
-    rw (eq-eqb _ _ c.if-word-ne0.false, ne_eqb _ _ c.if-number-eq0.false, eq-eqb _ 0 c.if-signer-ne0.false, le-ltb _ _ more)
+    let unsigned : c.args.word / 256 % 32 ≡ 0 = omega arith in
+    rw (eq-eqb _ _ c.if-word-ne0.false, ne_eqb _ _ c.if-number-eq0.false, eq-eqb _ 0 unsigned, le-ltb _ _ more)
