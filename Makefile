@@ -22,7 +22,7 @@ example: $(ARCHIVE) ## build and run the example host, a season in C
 check: ## prove every crate, over what earlier checks kept
 	rt all check
 
-test: ## the gate: prove everything from nothing, try every must-fail edit, run every test
+test: ## the gate: prove everything, try every must-fail edit, run every test
 	@bash tests/gate
 
 bench: ## time the library beside Rust, C and the JVM; write docs/BENCHMARK.md

@@ -1,13 +1,12 @@
 #!/usr/bin/env python3
-"""Brings the repository's own definitions and lemmas to Rattle's spelling: words in snake case, types and modules in
-upper camel case. Run once, at the top, on what the kit's port.py left of commit d2f6201.
+"""Brings the repository's own definitions and lemmas to Rattle's spelling: words in snake case; types and modules, which
+were in upper camel case, stay. Run once, at the top, on what the kit's port.py left of commit d2f6201.
 
 A dash stays where it joins two names and the snake case is a name already (`bit-and`); a lemma that would get the name
 of its function is called `_lem`. Functions of src/, exported names, strings, inputs and outputs keep their names.
 """
 import os
 import re
-import sys
 
 TOKEN = re.compile(r"[^\s(){}.,;\[\]`\"]+")
 DECLARED = re.compile(r"^\s*(?:unfoldable |abbrev )?(?:pub )?(?:data |record |ruleset |syntax )?([A-Za-z_][^\s(){}:.]*)(?: \{[^}]*\})?(?: \([^)]*\))* :(?: |$)")
@@ -99,8 +98,6 @@ def main():
         put(p, "\n".join(re.sub(r"`([^`]*)`", lambda m: "`" + turned(m.group(1)) + "`", l) if l.lstrip().startswith("--") else l for l in lines))
     for p in files(".rt"):
         put(p, "\n".join(l if l.lstrip().startswith("//") else turned(l) for l in text(p).split("\n")))
-    with open("/tmp/respelled.txt", "w") as f:
-        f.write("".join(f"{a} {b}\n" for a, b in sorted(new.items())))
     print(len(new), "names")
 
 

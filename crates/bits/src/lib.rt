@@ -12,6 +12,7 @@ pub fn has(w: u64, t: u8) -> bool
 }
 
 // w with bit t set; w itself where t is 64 or more.
+#[tactic(auto, using(crate::proofs::Laws::with_in, crate::proofs::Laws::with_out))]
 pub fn with(w: u64, t: u8) -> u64
     ensures { result ≡ with_bit w t }
 {

@@ -32,7 +32,7 @@ use Rattle.walk.specs.Pictures as stacks
 use Rattle.walk.specs.Pictures.{by_walk}
 use Rattle.walk.proofs.Agree.{agree}
 use Rattle.walk.proofs.Fits as walk_fits
-use Rattle.walk.proofs.Kept as Walk_kept
+use Rattle.walk.proofs.Kept as walk_kept
 use Rattle.walk.proofs.Live as walk_live'
 use Rattle.record.specs.Fits as records
 use Rattle.record.specs.Pictures as chains
@@ -156,11 +156,11 @@ passed_stays p s op n left r h f = passing.moved_stays p s op r n left h f
 -- which is reached; so no operation is then refused by 13 or 14, and every answer is the definition's.
 module _ (p : Policy) (v : valid p ≡ true) where
   pub walk_live : (s : List ℕ) (st : Stack) → Lived by_walk p s st → Live (stacks.Pictures p) (walks.fits p) p s st
-  walk_live = live.live by_walk p v (Walk_kept.fresh p) (walk_fits.pictured_fits p)
+  walk_live = live.live by_walk p v (walk_kept.fresh p) (walk_fits.pictured_fits p)
 
   pub walk_answers : (s : List ℕ) (st : Stack) → Lived by_walk p s st → (w lent n byte : ℕ) (left : List ℕ) → Operate by_walk p s w lent n byte left
       → Answered (outcome true p w st) lent n byte
-  walk_answers = live.answered by_walk p v (Walk_kept.fresh p) (walk_fits.pictured_fits p)
+  walk_answers = live.answered by_walk p v (walk_kept.fresh p) (walk_fits.pictured_fits p)
 
   pub record_live : (s : List ℕ) (st : Stack) → Lived by_record p s st → Live (chains.Pictures p) (records.fits p) p s st
   record_live = live.live by_record p v (record_kept.fresh p) (record_fits.pictured_fits p)

@@ -167,6 +167,7 @@ fn mark(state: &mut State, op: Operation) -> Answer
 }
 
 // The enabled marks of a new frame above d others: those of the start at the bottom, else none.
+#[tactic(auto, using(std::proofs::lemmas::Bool::Decides::nat_tests))]
 fn first_marks(policy: &Policy, d: u64) -> u64
     ensures { result ≡ cond (eqb d 0) (start_marks policy.now) 0 }
 {

@@ -1,6 +1,9 @@
 -- The rule that the byte names; only a take makes a chain that was not there.
 use borrow.Author.Tests.{eq-eqb, ne_eqb}
+use native.Mathlib.Omega.{arith}
+use mathlib.Core.Path.{◌≡◌}
 use mathlib.Core.Bool.{or-true, or-false}
+use Prim.Native.Nat.{◌%◌}
 use Rattle.beliefs.specs.Derivation.{follow}
 use Rattle.derivation.proofs.follow.Goals as goal
 
@@ -34,10 +37,11 @@ returns-then-step-ne0 c = rw (
 pub returns : goal.returns
 unfolding follow
 returns c =
+    let bottom : c.args.step % 64 ≡ 0 = omega arith in
     rw (
       ne_eqb _ _ c.if-rule-eq0.false,
       or-false c.args.chain.taken,
       ne_eqb _ _ c.if-rule-eq1.false,
       ne_eqb _ _ c.if-rule-eq2.false,
-      eq-eqb _ 0 c.if-step-ne0.false,
+      eq-eqb _ 0 bottom,
     ) (c.drop_last.ensures.over _)

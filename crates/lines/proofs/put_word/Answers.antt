@@ -1,4 +1,5 @@
 -- What the word is decoded to decides, and then its operation, as in the definition.
+use borrow.Author.Rules.{rules}
 use mathlib.Core.Path.{◌≡◌, refl, sym, ap, ◌∙◌}
 use mathlib.Core.List.{[]}
 use Prim.Native.Nat.{ℕ}
@@ -40,4 +41,4 @@ returns-in-Check c =
 
 pub returns-in_default-op : goal.returns-in_default-op
 returns-in_default-op c =
-    rw (line (goal.at.returns-in_default-op c).After-decode-decoded, c.in-Word.is, other _ _ _ c.in_default-op.not-Check) none
+    rw (line (goal.at.returns-in_default-op c).After-decode-decoded, c.in-Word.is, other c.in-Word.w.op _ _ (search rules)) none

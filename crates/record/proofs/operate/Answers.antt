@@ -1,6 +1,7 @@
 -- Each way out is one of the ways out of any engine's operation word (beliefs, Engine).
 use borrow.Author.Tests.{eq-eqb, ne_eqb}
 use mathlib.Core.Path.{◌≡◌, sym, ap, ◌∙◌}
+use mathlib.Core.Logic.{◌≢◌}
 use native.Mathlib.Omega.{arith}
 use Rattle.words.specs.Words.{number_of}
 use Rattle.beliefs.specs.Policy.{refusal_in}
@@ -37,10 +38,12 @@ returns-in_default c =
 
 pub returns-then-done-eq-ACCEPTED : goal.returns-then-done-eq-ACCEPTED
 returns-then-done-eq-ACCEPTED c =
+    let accepted : c.serve-done.result.number ≡ 0 = omega arith in
     done_word by_record _ _ _ _ (passed (goal.at.returns-then-done-eq-ACCEPTED c).Else-not-valid) _ c.decode-decoded.ensures _ c.in-Word.is
-    _ _ c.serve-done.ensures _ (rw (eq-eqb _ 0 c.if-done-eq-ACCEPTED.true))
+    _ _ c.serve-done.ensures _ (rw (eq-eqb _ 0 accepted))
 
 pub returns-else-done-eq-ACCEPTED : goal.returns-else-done-eq-ACCEPTED
 returns-else-done-eq-ACCEPTED c =
+    let refused : c.serve-done.result.number ≢ 0 = omega arith in
     done_word by_record _ _ _ _ (passed (goal.at.returns-else-done-eq-ACCEPTED c).Else-not-valid) _ c.decode-decoded.ensures _ c.in-Word.is
-    _ _ c.serve-done.ensures _ (rw (ne_eqb _ 0 c.if-done-eq-ACCEPTED.false))
+    _ _ c.serve-done.ensures _ (rw (ne_eqb _ 0 refused))

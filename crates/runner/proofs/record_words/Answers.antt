@@ -50,11 +50,12 @@ bounds-answers-i c =
     omega (arith, ready (goal.at.bounds-answers-i c).Start, c.loop-i.invariant.1)
 
 pub loop-i-preserved : goal.loop-i-preserved
-loop-i-preserved c = (
-  omega arith,
-  simp length-set c.loop-i.invariant.1,
-  onward _ _ _ _ _ _ _ c.loop-i.invariant.2 _ (word (goal.at.loop-i-preserved c).In-Word) _ _ c.serve-kept.ensures c.if-kept-ne-ACCEPTED.false,
-)
+loop-i-preserved c =
+    let accepted : c.serve-kept.result.number ≡ 0 = omega arith in (
+      omega arith,
+      simp length-set c.loop-i.invariant.1,
+      onward _ _ _ _ _ _ _ c.loop-i.invariant.2 _ (word (goal.at.loop-i-preserved c).In-Word) _ _ c.serve-kept.ensures accepted,
+    )
 
 pub shape_of-answers : goal.shape_of-answers
 shape_of-answers c = c.loop-i.invariant.1

@@ -1,0 +1,5 @@
+-- The promise is the library function's own.
+use Rattle.galmuvesh_c.proofs.galmuvesh_walk_operate.Goals as goal
+
+pub returns : goal.returns
+returns c = c.galmuvesh_walk_operate.ensures
