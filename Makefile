@@ -33,15 +33,16 @@ soak: $(ARCHIVE) ## compare the library with the second reading from fresh seeds
 
 lib: $(ARCHIVE) ## the archive for C hosts on x86-64
 
+# for every x86-64 processor: the kit's own choice is v2, which an old station has not, and an archive cannot look
 $(ARCHIVE): $(SOURCES)
 	@mkdir -p target
-	cd crates/galmuvesh_c && rt lib >../../target/archive.log 2>&1 || { cat ../../target/archive.log; exit 1; }
+	cd crates/galmuvesh_c && rt lib --cpu x86-64 >../../target/archive.log 2>&1 || { cat ../../target/archive.log; exit 1; }
 	install -D -m 644 crates/galmuvesh_c/out/libgalmuvesh_c.a $@
 
 # a program is linked where it is first run
 $(LISTING): $(SOURCES)
 	@mkdir -p target
-	cd crates/listing && rt run </dev/null >../../target/listing.log 2>&1 || { cat ../../target/listing.log; exit 1; }
+	cd crates/listing && rt run --cpu x86-64 </dev/null >../../target/listing.log 2>&1 || { cat ../../target/listing.log; exit 1; }
 	install -D -m 755 crates/listing/out/listing $@
 
 install: $(ARCHIVE) $(LISTING) ## install under PREFIX (default /usr/local), below DESTDIR where one is given
