@@ -11,7 +11,7 @@ use Rattle.answers.specs.Answer.{Answer, answer_of}
 use Rattle.answers.specs.Account.{Report, report_of}
 
 -- what a number says: accepted where it is that of no refusal
-abbrev said : {A : Type 0} → ℕ → A → Result A Refusal
+abbrev pub said : {A : Type 0} → ℕ → A → Result A Refusal
 said n x =
     cond (eqb n 1) (Err refusals.TooFew)
     (cond (eqb n 2) (Err refusals.LeftOver)
@@ -29,7 +29,7 @@ said n x =
     (cond (eqb n 14) (Err refusals.BadState)
     (Ok x))))))))))))))
 
-said_number : {A : Type 0} (r : Refusal) (x : A) → said (number r) x ≡ Err r
+pub said_number : {A : Type 0} (r : Refusal) (x : A) → said (number r) x ≡ Err r
 said_number refusals.TooFew x = refl
 said_number refusals.LeftOver x = refl
 said_number refusals.BitSet x = refl
