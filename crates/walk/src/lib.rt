@@ -22,36 +22,32 @@ pub const WORDS: usize = 190;
 
 pub type State = [u64; WORDS];
 
+// What is read where there is no frame.
+const NOBODY: Marked = Marked {
+    signer: 0,
+    enabled: 0,
+    disabled: 0,
+};
+
 // The depth. A state that says more than 63 is taken to be full.
 pub fn depth(state: &State) -> u64
     ensures { result ≡ depth state.now }
 {
-    let said = state[0];
-    if said < words::DEPTH_MOST {
-        said
-    } else {
-        words::DEPTH_MOST
-    }
+    state[0].min(words::DEPTH_MOST)
 }
 
 // The frame above k others: zeros where there is no room for one.
 fn frame_at(state: &State, k: u64) -> Marked
     ensures { result ≡ frame_at state.now k }
 {
-    // As a slice, so that its length is known.
-    let whole: &[u64] = state;
     if words::DEPTH_MOST <= k {
-        return Marked {
-            signer: 0,
-            enabled: 0,
-            disabled: 0,
-        };
+        return NOBODY;
     }
     let at = (3 * k) as usize;
     Marked {
-        signer: whole[at + 1],
-        enabled: whole[at + 2],
-        disabled: whole[at + 3],
+        signer: state[at + 1],
+        enabled: state[at + 2],
+        disabled: state[at + 3],
     }
 }
 
@@ -59,8 +55,6 @@ fn frame_at(state: &State, k: u64) -> Marked
 fn set_frame(state: &mut State, k: u64, frame: Marked)
     ensures { state.new ≡ put state.old k frame }
 {
-    // As a slice, so that its length is known.
-    let whole: &[u64] = state;
     if words::DEPTH_MOST <= k {
         return;
     }
@@ -76,11 +70,7 @@ pub fn frame(state: &State, place: u64) -> Marked
 {
     let d = depth(state);
     if d <= place {
-        return Marked {
-            signer: 0,
-            enabled: 0,
-            disabled: 0,
-        };
+        return NOBODY;
     }
     frame_at(state, d - 1 - place)
 }
@@ -123,32 +113,25 @@ pub fn check(policy: &Policy, state: &State, target: u8) -> Seen
     }
 }
 
-// A frame with other marks.
-fn with_marks(m: Marked, enabled: u64, disabled: u64) -> Marked
-    ensures { result ≡ record { signer = m.signer; enabled = enabled; disabled = disabled } }
-{
-    Marked {
-        signer: m.signer,
-        enabled,
-        disabled,
-    }
-}
-
 // A frame after enable, disable or revert.
 fn remark(op: Operation, m: Marked) -> Marked
     ensures { result ≡ remarked op m }
 {
     match op {
-        Operation::Call(_) => m,
-        Operation::Return => m,
-        Operation::Enable(t) => with_marks(m, bits::with(m.enabled, t), m.disabled),
-        Operation::Disable(t) => with_marks(
-            m,
-            bits::without(m.enabled, t),
-            bits::with(m.disabled, t),
-        ),
-        Operation::Revert(t) => with_marks(m, bits::without(m.enabled, t), m.disabled),
-        Operation::Check(_) => m,
+        Operation::Enable(t) => Marked {
+            enabled: bits::with(m.enabled, t),
+            ..m
+        },
+        Operation::Disable(t) => Marked {
+            enabled: bits::without(m.enabled, t),
+            disabled: bits::with(m.disabled, t),
+            ..m
+        },
+        Operation::Revert(t) => Marked {
+            enabled: bits::without(m.enabled, t),
+            ..m
+        },
+        Operation::Call(_) | Operation::Return | Operation::Check(_) => m,
     }
 }
 
@@ -207,12 +190,7 @@ fn leave(state: &mut State) -> Answer
     if number != answers::ACCEPTED {
         return Answer::refused(number);
     }
-    let zeros = Marked {
-        signer: 0,
-        enabled: 0,
-        disabled: 0,
-    };
-    set_frame(state, d - 1, zeros);
+    set_frame(state, d - 1, NOBODY);
     state[0] = d - 1;
     Answer::done()
 }
@@ -233,14 +211,10 @@ fn ask(policy: &Policy, state: &State, target: u8) -> Answer
 pub fn serve(policy: &Policy, state: &mut State, op: Operation) -> Answer
     ensures { Serve by_walk policy.now state.old op result state.new }
 {
-    // As a slice, so that its length is known.
-    let whole: &[u64] = state;
     match op {
         Operation::Call(s) => call(policy, state, s),
         Operation::Return => leave(state),
-        Operation::Enable(_) => mark(state, op),
-        Operation::Disable(_) => mark(state, op),
-        Operation::Revert(_) => mark(state, op),
+        Operation::Enable(_) | Operation::Disable(_) | Operation::Revert(_) => mark(state, op),
         Operation::Check(t) => ask(policy, state, t),
     }
 }
@@ -269,8 +243,6 @@ fn frames_fit(policy: &Policy, state: &State) -> bool
 pub fn valid(policy: &Policy, state: &State) -> bool
     ensures { result ≡ fits policy.now state.now }
 {
-    // As a slice, so that its length is known.
-    let whole: &[u64] = state;
     if words::DEPTH_MOST < state[0] {
         return false;
     }
@@ -278,7 +250,7 @@ pub fn valid(policy: &Policy, state: &State) -> bool
         return false;
     }
     let above = (3 * depth(state) + 1) as usize;
-    bits::all_fit(&whole[above..WORDS], 0)
+    bits::all_fit(&state[above..], 0)
 }
 
 // One operation word: 13, 14, 4, 3, 5 or 6, 7, 8. The answer byte is written only where it is accepted.

@@ -2,11 +2,10 @@
 use Rattle.walk.proofs.remark.Goals as goal
 
 pub returns-in-Enable : goal.returns-in-Enable
-returns-in-Enable c = rw (c.in-Enable.is, ← c.with.ensures) c.with_marks.ensures
+returns-in-Enable c = rw (c.in-Enable.is, ← c.with.ensures)
 
 pub returns-in-Disable : goal.returns-in-Disable
-returns-in-Disable c =
-    rw (c.in-Disable.is, ← c.without.ensures, ← c.with-in-Disable.ensures) c.with_marks-in-Disable.ensures
+returns-in-Disable c = rw (c.in-Disable.is, ← c.without.ensures, ← c.with-in-Disable.ensures)
 
 pub returns-in-Revert : goal.returns-in-Revert
-returns-in-Revert c = rw (c.in-Revert.is, ← c.without-in-Revert.ensures) c.with_marks-in-Revert.ensures
+returns-in-Revert c = rw (c.in-Revert.is, ← c.without-in-Revert.ensures)
