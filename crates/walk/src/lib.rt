@@ -1,15 +1,16 @@
 // The walk: frames with marks in a lent state, the operations on them in place, and the check from newest to oldest.
 #![tactic(auto)]
 
-ghost use Rattle.std.specs.Prelude.{◌≡◌, cond, eqb, get_or};
+ghost use Rattle.std.specs.Prelude.{◌≡◌, ℕ, ◌+◌, ◌-◌, cond, eqb, get_or};
+ghost use Rattle.bits.specs.Bit.{with_bit};
 ghost use Rattle.words.specs.declared.Operation.TheVariants.{Call, Check};
 ghost use Rattle.answers.specs.Answer.{done, Gives};
 ghost use Rattle.beliefs.specs.Lists.{each};
 ghost use Rattle.beliefs.specs.Stack.{nobody, start_marks, walk};
 ghost use Rattle.beliefs.specs.Engine.{acts, by_frame, Serve, Operate};
 ghost use Rattle.walk.specs.Layout.{depth, frame_at, frames, put};
-ghost use Rattle.walk.specs.Fits.{in_use, fits};
-ghost use Rattle.walk.specs.Does.{returned_in, remarked, marked_in};
+ghost use Rattle.walk.specs.Fits.{in_use, unused, fits};
+ghost use Rattle.walk.specs.Does.{decided, returned_in, remarked, marked_in};
 ghost use Rattle.walk.specs.Pictures.{by_walk};
 
 use answers::Answer;
@@ -75,41 +76,38 @@ pub fn frame(state: &State, place: u64) -> Marked
     frame_at(state, d - 1 - place)
 }
 
+// What a frame decides of a check: its verdict, or `None` where the walk goes on below it. The target is asked by the word of its bit.
+fn decided(policy: &Policy, frame: Marked, asked: u64) -> Option<bool>
+    ensures { (t : ℕ) → asked ≡ with_bit 0 t → result ≡ decided policy.now t frame }
+{
+    if !bits::meet(policy::row(policy, frame.signer), asked) {
+        Some(false)
+    } else if bits::meet(frame.enabled, asked) {
+        Some(true)
+    } else if bits::meet(frame.disabled, asked) {
+        Some(false)
+    } else {
+        None
+    }
+}
+
 // The walk from the newest frame to the oldest: the verdict on a target, and the frames looked at.
 pub fn check(policy: &Policy, state: &State, target: u8) -> Seen
     ensures { result ≡ walk policy.now target (frames state.now) }
 {
     let asked = bits::with(0, target);
-    let mut left = depth(state);
-    let mut looked: u64 = 0;
-    loop {
-        if left == 0 {
-            break Seen {
-                granted: false,
-                looked,
+    let d = depth(state);
+    for k in (0..d).rev() {
+        if let Some(granted) = decided(policy, frame_at(state, k), asked) {
+            return Seen {
+                granted,
+                looked: d - k,
             };
         }
-        left -= 1;
-        looked += 1;
-        let frame = frame_at(state, left);
-        if !bits::meet(policy::row(policy, frame.signer), asked) {
-            break Seen {
-                granted: false,
-                looked,
-            };
-        }
-        if bits::meet(frame.enabled, asked) {
-            break Seen {
-                granted: true,
-                looked,
-            };
-        }
-        if bits::meet(frame.disabled, asked) {
-            break Seen {
-                granted: false,
-                looked,
-            };
-        }
+    }
+    Seen {
+        granted: false,
+        looked: d,
     }
 }
 
@@ -225,32 +223,31 @@ fn frames_fit(policy: &Policy, state: &State) -> bool
     ensures { result ≡ each (in_use policy.now state.now) (depth state.now) }
 {
     let signers = policy::signers(policy);
-    let d = depth(state);
-    let mut marks: u64 = 0;
-    let mut k: u64 = 0;
-    while k < d {
+    let mut marks = 0;
+    for k in 0..depth(state) {
         let frame = frame_at(state, k);
         if signers <= frame.signer {
             return false;
         }
-        marks = marks | frame.enabled | frame.disabled;
-        k += 1;
+        marks |= frame.enabled | frame.disabled;
     }
     bits::fits(marks, policy::targets(policy))
 }
 
+// Whether every word above the frames is zero.
+fn unused_above(state: &State) -> bool
+    ensures { result ≡ each (λ k. unused state.now (depth state.now + k)) (63 - depth state.now) }
+{
+    let above = (3 * depth(state) + 1) as usize;
+    bits::all_fit(&state[above..], 0)
+}
+
 // Whether number 14 does not refuse the state.
+#[tactic(auto, unfolding(crate::specs::Fits::fits))]
 pub fn valid(policy: &Policy, state: &State) -> bool
     ensures { result ≡ fits policy.now state.now }
 {
-    if words::DEPTH_MOST < state[0] {
-        return false;
-    }
-    if !frames_fit(policy, state) {
-        return false;
-    }
-    let above = (3 * depth(state) + 1) as usize;
-    bits::all_fit(&state[above..], 0)
+    state[0] <= words::DEPTH_MOST && frames_fit(policy, state) && unused_above(state)
 }
 
 // One operation word: 13, 14, 4, 3, 5 or 6, 7, 8. The answer byte is written only where it is accepted.
