@@ -4,10 +4,10 @@
 ghost use Rattle.std.specs.Prelude.{◌≡◌, ℕ, ◌+◌, ◌-◌, cond, eqb, get_or};
 ghost use Rattle.bits.specs.Bit.{with_bit};
 ghost use Rattle.words.specs.declared.Operation.TheVariants.{Call, Check};
-ghost use Rattle.answers.specs.Answer.{done, Gives};
+ghost use Rattle.answers.specs.Answer.{answer_of, done, Gives};
 ghost use Rattle.beliefs.specs.Lists.{each};
 ghost use Rattle.beliefs.specs.Stack.{nobody, start_marks, walk};
-ghost use Rattle.beliefs.specs.Engine.{acts, by_frame, Serve, Operate};
+ghost use Rattle.beliefs.specs.Engine.{acts, by_frame, Serve};
 ghost use Rattle.walk.specs.Layout.{depth, frame_at, frames, put};
 ghost use Rattle.walk.specs.Fits.{in_use, unused, fits};
 ghost use Rattle.walk.specs.Does.{decided, returned_in, remarked, marked_in};
@@ -15,8 +15,9 @@ ghost use Rattle.walk.specs.Pictures.{by_walk};
 
 use answers::Answer;
 use beliefs::{Marked, Seen};
+use engine::Engine;
 use policy::Policy;
-use words::{Decoded, Operation};
+use words::Operation;
 
 // A state's words: the depth, then 63 frames, bottom first, of 3 words.
 pub const WORDS: usize = 190;
@@ -135,16 +136,13 @@ fn remark(op: Operation, m: Marked) -> Marked
 
 // Enable, disable or revert by the newest frame: 7.
 fn mark(state: &mut State, op: Operation) -> Answer
-    ensures { Gives result state.new (by_frame by_walk (done (marked_in op state.old)) state.old) }
+    ensures { Gives (answer_of result) state.new (by_frame by_walk (done (marked_in op state.old)) state.old) }
 {
     let d = depth(state);
-    let number = words::framed(d);
-    if number != answers::ACCEPTED {
-        return Answer::refused(number);
-    }
+    words::framed(d)?;
     let frame = remark(op, frame_at(state, d - 1));
     set_frame(state, d - 1, frame);
-    Answer::done()
+    answers::done()
 }
 
 // The enabled marks of a new frame above d others: those of the start at the bottom, else none.
@@ -160,14 +158,12 @@ fn first_marks(policy: &Policy, d: u64) -> u64
 }
 
 // A new newest frame: 8.
+#[tactic(auto, unfolding(words::specs::Words::barred))]
 fn call(policy: &Policy, state: &mut State, signer: u8) -> Answer
-    ensures { Gives result state.new (acts by_walk policy.now (Call signer) state.old) }
+    ensures { Gives (answer_of result) state.new (acts by_walk policy.now (Call signer) state.old) }
 {
     let d = depth(state);
-    let number = words::deeper(d);
-    if number != answers::ACCEPTED {
-        return Answer::refused(number);
-    }
+    words::deeper(d)?;
     let enabled = first_marks(policy, d);
     let frame = Marked {
         signer: signer as u64,
@@ -176,38 +172,33 @@ fn call(policy: &Policy, state: &mut State, signer: u8) -> Answer
     };
     set_frame(state, d, frame);
     state[0] = d + 1;
-    Answer::done()
+    answers::done()
 }
 
 // The newest frame goes, and leaves zeros: 7.
 fn leave(state: &mut State) -> Answer
-    ensures { Gives result state.new (by_frame by_walk (done (returned_in state.old)) state.old) }
+    ensures { Gives (answer_of result) state.new (by_frame by_walk (done (returned_in state.old)) state.old) }
 {
     let d = depth(state);
-    let number = words::framed(d);
-    if number != answers::ACCEPTED {
-        return Answer::refused(number);
-    }
+    words::framed(d)?;
     set_frame(state, d - 1, NOBODY);
     state[0] = d - 1;
-    Answer::done()
+    answers::done()
 }
 
 // A check by the newest frame: 7.
+#[tactic(auto, using(crate::proofs::Frames::six_bits), unfolding(words::specs::Words::barred))]
 fn ask(policy: &Policy, state: &State, target: u8) -> Answer
-    ensures { Gives result state.now (acts by_walk policy.now (Check target) state.now) }
+    ensures { Gives (answer_of result) state.now (acts by_walk policy.now (Check target) state.now) }
 {
-    let number = words::framed(depth(state));
-    if number != answers::ACCEPTED {
-        return Answer::refused(number);
-    }
+    words::framed(depth(state))?;
     let seen = check(policy, state, target);
-    Answer::verdict(seen.granted, seen.looked)
+    answers::verdict(seen.granted, seen.looked)
 }
 
 // One operation that the caller has decoded.
 pub fn serve(policy: &Policy, state: &mut State, op: Operation) -> Answer
-    ensures { Serve by_walk policy.now state.old op result state.new }
+    ensures { Serve by_walk policy.now state.old op (answer_of result) state.new }
 {
     match op {
         Operation::Call(s) => call(policy, state, s),
@@ -250,25 +241,25 @@ pub fn valid(policy: &Policy, state: &State) -> bool
     state[0] <= words::DEPTH_MOST && frames_fit(policy, state) && unused_above(state)
 }
 
-// One operation word: 13, 14, 4, 3, 5 or 6, 7, 8. The answer byte is written only where it is accepted.
-pub fn operate(policy: &Policy, state: &mut State, word: u16, answer: &mut u8) -> u8
-    ensures { Operate by_walk policy.now state.old word answer.old result answer.new state.new }
-{
-    let number = policy::refusal(policy);
-    if number != answers::ACCEPTED {
-        return number;
+// The walk as an engine.
+pub struct Walk;
+
+impl Engine for Walk {
+    type State = State;
+
+    ghost by = { by_walk };
+
+    ghost words = { λ s. s };
+
+    fn fresh() -> State {
+        [0; WORDS]
     }
-    if !valid(policy, state) {
-        return answers::BAD_STATE;
+
+    fn valid(policy: &Policy, state: &State) -> bool {
+        valid(policy, state)
     }
-    let decoded = policy::decode(policy, word, 0);
-    let Decoded::Word(w) = decoded else {
-        return words::number(decoded);
-    };
-    let op = w.op;
-    let done = serve(policy, state, op);
-    if done.number == answers::ACCEPTED {
-        *answer = done.byte;
+
+    fn serve(policy: &Policy, state: &mut State, op: Operation) -> Answer {
+        serve(policy, state, op)
     }
-    done.number
 }
