@@ -39,6 +39,7 @@ pub fn depth(state: &State) -> u64
 }
 
 // The frame above k others: zeros where there is no room for one.
+#[tactic(auto, using(crate::proofs::Frames::frame_past), unfolding(crate::specs::Layout::frame_at))]
 fn frame_at(state: &State, k: u64) -> Marked
     ensures { result ≡ frame_at state.now k }
 {
@@ -54,6 +55,7 @@ fn frame_at(state: &State, k: u64) -> Marked
 }
 
 // Stores a frame above k others, where there is room for one.
+#[tactic(auto, using(crate::proofs::Frames::put_past))]
 fn set_frame(state: &mut State, k: u64, frame: Marked)
     ensures { state.new ≡ put state.old k frame }
 {
@@ -67,6 +69,7 @@ fn set_frame(state: &mut State, k: u64, frame: Marked)
 }
 
 // The frame at a place, 0 at the newest: zeros where there is none.
+#[tactic(auto, using(crate::proofs::Frames::place_past, crate::proofs::Frames::place_in))]
 pub fn frame(state: &State, place: u64) -> Marked
     ensures { result ≡ get_or (frames state.now) place nobody }
 {
@@ -226,6 +229,7 @@ fn frames_fit(policy: &Policy, state: &State) -> bool
 }
 
 // Whether every word above the frames is zero.
+#[tactic(auto, using(crate::proofs::Fits::room_above))]
 fn unused_above(state: &State) -> bool
     ensures { result ≡ each (λ k. unused state.now (depth state.now + k)) (63 - depth state.now) }
 {
