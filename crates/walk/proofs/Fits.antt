@@ -28,17 +28,16 @@ module _ (p s : List ℕ) where
   none_in_use = sym (below_nothing (targets p))
 
   pub one_in_use : (k marks : ℕ) → each (in_use p s) k ≡ below marks (targets p) → (frame_at s k).signer < signers p
-      → each (in_use p s) (k + 1) ≡ below (bit_or (bit_or marks (frame_at s k).enabled) (frame_at s k).disabled) (targets p)
+      → each (in_use p s) (k + 1) ≡ below (bit_or marks (bit_or (frame_at s k).enabled (frame_at s k).disabled)) (targets p)
   unfolding each in_use
   one_in_use k marks h l =
       rw (
         add-one,
         h,
         lt-ltb _ _ l,
-        below_or (bit_or marks (frame_at s k).enabled) (frame_at s k).disabled (targets p),
-        below_or marks (frame_at s k).enabled (targets p),
+        below_or marks (bit_or (frame_at s k).enabled (frame_at s k).disabled) (targets p),
+        below_or (frame_at s k).enabled (frame_at s k).disabled (targets p),
       )
-      (sym (and_assoc (below marks (targets p)) (below (frame_at s k).enabled (targets p)) (below (frame_at s k).disabled (targets p))))
 
   pub not_in_use : (k : ℕ) → signers p ≤ (frame_at s k).signer → in_use p s k ≡ false
   unfolding in_use
