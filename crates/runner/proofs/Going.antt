@@ -1,6 +1,5 @@
 -- A run over a lent state, for every engine that keeps the promise of one operation: the state pictures the stack that is reached. Assumes nothing.
-use mathlib.Core.Path.{◌≡◌, refl, sym, ◌∙◌}
-use mathlib.Core.Logic.{◌≢◌}
+use mathlib.Core.Path.{◌≡◌, refl, sym}
 use mathlib.Core.Bool.{true}
 use mathlib.Core.List.{List, []}
 use Prim.Native.Nat.{ℕ, ◌+◌, ◌*◌, ◌≤◌, ◌<◌}
@@ -12,7 +11,7 @@ use Rattle.answers.specs.Numbers.{number}
 use Rattle.answers.specs.Answer.{answer_of}
 use Rattle.answers.proofs.Refusals.{some_number}
 use Rattle.words.specs.declared.Word.{Word as Held}
-use Rattle.words.specs.Words.{Decoded, Word, Refused, word_at}
+use Rattle.words.specs.Words.{Decoded, Word, Refused, decoding, word_at}
 use Rattle.words.proofs.Words.{Fair, decoded_fair}
 use Rattle.beliefs.specs.Policy.{Policy, signers, targets, valid}
 use Rattle.beliefs.specs.Stack.{Stack}
