@@ -45,20 +45,14 @@ fn words_from(frame: u64) -> usize
 fn depth(state: &State) -> u64
     ensures { result ≡ depth state.now }
 {
-    let said = state[0];
-    if said < words::DEPTH_MOST {
-        said
-    } else {
-        words::DEPTH_MOST
-    }
+    state[0].min(words::DEPTH_MOST)
 }
 
 // How many frames are below the newest.
 fn newest(state: &State) -> u64
     ensures { result ≡ depth state.now - 1 }
 {
-    let d = depth(state);
-    if d == 0 { 0 } else { d - 1 }
+    depth(state).saturating_sub(1)
 }
 
 // The signer of a frame, by how many are below it.
@@ -85,17 +79,14 @@ fn words_below(state: &State, from: usize, to: usize, n: u64) -> bool
     requires { (from ≤ to) × (to ≤ 4096) }
     ensures { result ≡ words_below state.now from to n }
 {
-    // As a slice, so that its length is known.
-    let whole: &[u64] = state;
-    bits::all_fit(&whole[from..to], n)
+    bits::all_fit(&state[from..to], n)
 }
 
 // How many of a frame's 64 words are of targets below N.
 fn words(policy: &Policy) -> usize
     ensures { result ≡ words policy.now }
 {
-    let n = policy::targets(policy);
-    if n < 64 { n as usize } else { TARGETS }
+    policy::targets(policy).min(TARGETS as u64) as usize
 }
 
 // Whether a frame, by how many are below it, is as number 14 asks.
@@ -162,7 +153,7 @@ pub fn valid(policy: &Policy, state: &State) -> bool
 fn start_word(target: u64, n: u64) -> u64
     ensures { result ≡ cond (ltb target n) 1 0 }
 {
-    if target < n { 1 } else { 0 }
+    u64::from(target < n)
 }
 
 // How many targets a start hands over.
@@ -309,8 +300,6 @@ fn ask(policy: &Policy, state: &State, target: u8) -> Answer
 pub fn serve(policy: &Policy, state: &mut State, op: Operation) -> Answer
     ensures { Serve by_record policy.now state.old op result state.new }
 {
-    // As a slice, so that its length is known.
-    let whole: &[u64] = state;
     match op {
         Operation::Call(s) => call(policy, state, s),
         Operation::Return => leave(state),
