@@ -173,10 +173,8 @@ fn start(policy: &Policy, state: &mut State)
 {
     let n = start_targets(policy);
     let first = words_from(0);
-    let mut t: usize = 0;
-    while t < TARGETS {
+    for t in 0..TARGETS {
         state[first + t] = start_word(t as u64, n);
-        t += 1;
     }
 }
 
@@ -186,10 +184,8 @@ fn hand_down(state: &mut State, caller: u64)
     ensures { state.new ≡ filled (words_from (caller + 1)) (λ t. longer (held_at state.old caller t)) 64 state.old }
 {
     let from = words_from(caller);
-    let mut t: usize = 0;
-    while t < TARGETS {
+    for t in 0..TARGETS {
         state[from + FRAME + t] = state[from + t] << 1;
-        t += 1;
     }
 }
 
@@ -226,11 +222,7 @@ fn clear(state: &mut State)
     ensures { state.new ≡ cleared_in state.old }
 {
     let at = frame_from(newest(state));
-    let mut i: usize = 0;
-    while i < FRAME {
-        state[at + i] = 0;
-        i += 1;
-    }
+    state[at..at + FRAME].fill(0);
 }
 
 // Return: the newest frame goes: 7.
