@@ -109,15 +109,7 @@ fn frame_fits(policy: &Policy, state: &State, frame: u64) -> bool
 fn frames_fit(policy: &Policy, state: &State) -> bool
     ensures { result ≡ each (frame_fits policy.now state.now) (depth state.now) }
 {
-    let d = depth(state);
-    let mut frame: u64 = 0;
-    while frame < d {
-        if !frame_fits(policy, state, frame) {
-            return false;
-        }
-        frame += 1;
-    }
-    true
+    (0..depth(state)).all(|frame| frame_fits(policy, state, frame))
 }
 
 // Whether there is nothing but zero in room above the depth. A frame at a time is quicker than all the room at once: the
@@ -125,15 +117,10 @@ fn frames_fit(policy: &Policy, state: &State) -> bool
 fn zero_above(state: &State) -> bool
     ensures { result ≡ words_below state.now (frame_from (depth state.now)) 4096 0 }
 {
-    let mut above = depth(state);
-    while above < words::DEPTH_MOST {
+    (depth(state)..words::DEPTH_MOST).all(|above| {
         let at = frame_from(above);
-        if !words_below(state, at, at + FRAME, 0) {
-            return false;
-        }
-        above += 1;
-    }
-    true
+        words_below(state, at, at + FRAME, 0)
+    })
 }
 
 // Whether number 14 does not refuse the state.
