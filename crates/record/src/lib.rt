@@ -90,19 +90,16 @@ fn words(policy: &Policy) -> usize
 }
 
 // Whether a frame, by how many are below it, is as number 14 asks.
+#[tactic(auto, unfolding(crate::specs::Fits::frame_fits))]
 fn frame_fits(policy: &Policy, state: &State, frame: u64) -> bool
     requires { frame < 63 }
     ensures { result ≡ frame_fits policy.now state.now frame }
 {
-    if policy::signers(policy) <= signer(state, frame) {
-        return false;
-    }
     let first = words_from(frame);
     let outside = first + words(policy);
-    if !words_below(state, first, outside, frame + 1) {
-        return false;
-    }
-    words_below(state, outside, first + TARGETS, 0)
+    signer(state, frame) < policy::signers(policy)
+        && words_below(state, first, outside, frame + 1)
+        && words_below(state, outside, first + TARGETS, 0)
 }
 
 // Whether every frame is.
@@ -124,16 +121,11 @@ fn zero_above(state: &State) -> bool
 }
 
 // Whether number 14 does not refuse the state.
+#[tactic(auto, unfolding(crate::specs::Fits::fits))]
 pub fn valid(policy: &Policy, state: &State) -> bool
     ensures { result ≡ fits policy.now state.now }
 {
-    if words::DEPTH_MOST < state[0] {
-        return false;
-    }
-    if !frames_fit(policy, state) {
-        return false;
-    }
-    zero_above(state)
+    state[0] <= words::DEPTH_MOST && frames_fit(policy, state) && zero_above(state)
 }
 
 // Ok(T) with the empty chain, for a target below n.
