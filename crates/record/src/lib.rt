@@ -64,17 +64,20 @@ fn signer(state: &State, frame: u64) -> u64
 }
 
 // The chain lengths that the newest frame holds on a target, a bit for each: none on a target over 63.
+#[tactic(auto, unfolding(crate::specs::Layout::held_at))]
 fn held(state: &State, target: u8) -> u64
     ensures { result ≡ held state.now target }
 {
-    if TARGETS <= target as usize {
-        return 0;
+    let t = target as usize;
+    if t < TARGETS {
+        state[words_from(newest(state)) + t]
+    } else {
+        0
     }
-    let first = words_from(newest(state));
-    state[first + target as usize]
 }
 
 // Whether the words from one index up to another hold no length of n or above.
+#[tactic(auto, using(beliefs::proofs::Lists::part_below), unfolding(crate::specs::Fits::words_below))]
 fn words_below(state: &State, from: usize, to: usize, n: u64) -> bool
     requires { (from ≤ to) × (to ≤ 4096) }
     ensures { result ≡ words_below state.now from to n }
