@@ -2,18 +2,19 @@
 #![tactic(auto)]
 
 ghost use Rattle.std.specs.Prelude.{◌≡◌, cond, ◌+◌, ◌-◌, ◌≤◌, ◌<◌, ltb};
-ghost use Rattle.answers.specs.Answer.{done, Gives};
+ghost use Rattle.answers.specs.Answer.{answer_of, done, Gives};
 ghost use Rattle.words.specs.declared.Operation.TheVariants.{Call, Check};
 ghost use Rattle.beliefs.specs.Lists.{each};
-ghost use Rattle.beliefs.specs.Engine.{acts, by_frame, Serve, Operate};
+ghost use Rattle.beliefs.specs.Engine.{acts, by_frame, Serve};
 ghost use Rattle.record.specs.Layout.{frame_from, words_from, depth, signer_at, held_at, held, filled};
 ghost use Rattle.record.specs.Fits.{words_below, words, frame_fits, fits};
 ghost use Rattle.record.specs.Does.{start_targets, start_word, longer, begun_in, cleared_in, left_in, held_in, granted_in};
 ghost use Rattle.record.specs.Pictures.{by_record};
 
 use answers::Answer;
+use engine::Engine;
 use policy::Policy;
-use words::{Decoded, Operation};
+use words::Operation;
 
 // A state's words: the depth, and those of 63 frames.
 pub const WORDS: usize = 4096;
@@ -68,7 +69,7 @@ fn signer(state: &State, frame: u64) -> u64
 fn held(state: &State, target: u8) -> u64
     ensures { result ≡ held state.now target }
 {
-    let t = target as usize;
+    let t = usize::from(target);
     if t < TARGETS {
         state[words_from(newest(state)) + t]
     } else {
@@ -186,17 +187,14 @@ fn begin(policy: &Policy, state: &mut State)
 
 // Call: the new frame's words, its signer, and the depth is one more: 8.
 fn call(policy: &Policy, state: &mut State, signer: u8) -> Answer
-    ensures { Gives result state.new (acts by_record policy.now (Call signer) state.old) }
+    ensures { Gives (answer_of result) state.new (acts by_record policy.now (Call signer) state.old) }
 {
     let d = depth(state);
-    let number = words::deeper(d);
-    if number != answers::ACCEPTED {
-        return Answer::refused(number);
-    }
+    words::deeper(d)?;
     begin(policy, state);
-    state[frame_from(d)] = signer as u64;
+    state[frame_from(d)] = u64::from(signer);
     state[0] = d + 1;
-    Answer::done()
+    answers::done()
 }
 
 // The newest frame's words become zero, so that the next frame at its depth finds nothing of it.
@@ -209,32 +207,25 @@ fn clear(state: &mut State)
 
 // Return: the newest frame goes: 7.
 fn leave(state: &mut State) -> Answer
-    ensures { Gives result state.new (by_frame by_record (done (left_in state.old)) state.old) }
+    ensures { Gives (answer_of result) state.new (by_frame by_record (done (left_in state.old)) state.old) }
 {
     let d = depth(state);
-    let number = words::framed(d);
-    if number != answers::ACCEPTED {
-        return Answer::refused(number);
-    }
+    words::framed(d)?;
     clear(state);
     state[0] = d - 1;
-    Answer::done()
+    answers::done()
 }
 
 // Enable, disable or revert: the newest frame's word for a target becomes another: 7.
 fn hold(state: &mut State, target: u8, word: u64) -> Answer
-    ensures { Gives result state.new (by_frame by_record (done (held_in target word state.old)) state.old) }
+    ensures { Gives (answer_of result) state.new (by_frame by_record (done (held_in target word state.old)) state.old) }
 {
-    let number = words::framed(depth(state));
-    if number != answers::ACCEPTED {
-        return Answer::refused(number);
+    words::framed(depth(state))?;
+    let t = usize::from(target);
+    if t < TARGETS {
+        state[words_from(newest(state)) + t] = word;
     }
-    if TARGETS <= target as usize {
-        return Answer::done();
-    }
-    let first = words_from(newest(state));
-    state[first + target as usize] = word;
-    Answer::done()
+    answers::done()
 }
 
 // Whether a chain held on the target has only permitted frames. Length k is tried with the newest k + 1 frames, so the
@@ -258,19 +249,15 @@ fn granted(policy: &Policy, state: &State, target: u8) -> bool
 
 // Check, by the newest frame: 7. This engine counts no frames.
 fn ask(policy: &Policy, state: &State, target: u8) -> Answer
-    ensures { Gives result state.now (acts by_record policy.now (Check target) state.now) }
+    ensures { Gives (answer_of result) state.now (acts by_record policy.now (Check target) state.now) }
 {
-    let number = words::framed(depth(state));
-    if number != answers::ACCEPTED {
-        return Answer::refused(number);
-    }
-    let given = granted(policy, state, target);
-    Answer::verdict(given, 0)
+    words::framed(depth(state))?;
+    answers::verdict(granted(policy, state, target), 0)
 }
 
 // One operation that the caller has decoded.
 pub fn serve(policy: &Policy, state: &mut State, op: Operation) -> Answer
-    ensures { Serve by_record policy.now state.old op result state.new }
+    ensures { Serve by_record policy.now state.old op (answer_of result) state.new }
 {
     match op {
         Operation::Call(s) => call(policy, state, s),
@@ -282,25 +269,25 @@ pub fn serve(policy: &Policy, state: &mut State, op: Operation) -> Answer
     }
 }
 
-// One operation word, refused by 13, 14, 4, 3, 5 or 6, 7, 8; the answer byte is written where it is accepted.
-pub fn operate(policy: &Policy, state: &mut State, word: u16, answer: &mut u8) -> u8
-    ensures { Operate by_record policy.now state.old word answer.old result answer.new state.new }
-{
-    let number = policy::refusal(policy);
-    if number != answers::ACCEPTED {
-        return number;
+// The belief record as an engine.
+pub struct Record;
+
+impl Engine for Record {
+    type State = State;
+
+    ghost by = { by_record };
+
+    ghost words = { λ s. s };
+
+    fn fresh() -> State {
+        [0; WORDS]
     }
-    if !valid(policy, state) {
-        return answers::BAD_STATE;
+
+    fn valid(policy: &Policy, state: &State) -> bool {
+        valid(policy, state)
     }
-    let decoded = policy::decode(policy, word, 0);
-    let Decoded::Word(w) = decoded else {
-        return words::number(decoded);
-    };
-    let op = w.op;
-    let done = serve(policy, state, op);
-    if done.number == answers::ACCEPTED {
-        *answer = done.byte;
+
+    fn serve(policy: &Policy, state: &mut State, op: Operation) -> Answer {
+        serve(policy, state, op)
     }
-    done.number
 }
