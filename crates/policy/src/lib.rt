@@ -10,7 +10,7 @@ ghost use Rattle.beliefs.specs.Policy.{signers, targets, row, within, row_fits, 
 ghost use Rattle.beliefs.specs.Policy.{width, size, mirrored, row_of, row_bytes, rows_of, rows_bytes, header, head_signers, head_targets, headed};
 ghost use Rattle.beliefs.specs.Policy.{read_number, value_read, bytes_written, writing};
 ghost use Rattle.beliefs.specs.Stack.{full, start_marks};
-ghost use Rattle.policy.specs.Read.{PolicyRead, Together, cut_at};
+ghost use Rattle.policy.specs.Read.{PolicyRead, cut_at};
 
 use words::{Decoded, Operation};
 
@@ -55,26 +55,7 @@ pub fn targets(policy: &Policy) -> u64
 pub fn row(policy: &Policy, signer: u64) -> u64
     ensures { result ≡ row policy.now signer }
 {
-    // As a slice, so that its length is known.
-    let whole: &[u64] = policy;
-    if 31 < signer {
-        return 0;
-    }
-    whole[3 + signer as usize]
-}
-
-// The bits of the rows from one up to another, together. Two tests of many rows are quicker than one for each row.
-fn rows_together(policy: &Policy, from: u64, to: u64) -> u64
-    requires { from ≤ to }
-    ensures { Together policy.now from (to - from) result }
-{
-    let mut together: u64 = 0;
-    let mut s = from;
-    while s < to {
-        together = together | row(policy, s);
-        s += 1;
-    }
-    together
+    policy[3..].get(signer as usize).copied().unwrap_or(0)
 }
 
 // Whether the rows are as number 13 asks: below S no target at N or above, from S on nothing.
@@ -82,33 +63,26 @@ fn rows_fit(policy: &Policy) -> bool
     requires { signers policy.now ≤ 32 }
     ensures { result ≡ each (row_fits policy.now) 32 }
 {
-    if !bits::fits(rows_together(policy, 0, signers(policy)), targets(policy)) {
-        return false;
-    }
-    rows_together(policy, signers(policy), 32) == 0
+    let (below, past) = policy[3..].split_at(signers(policy) as usize);
+    bits::all_fit(below, targets(policy)) && bits::all_fit(past, 0)
 }
 
 // Whether n is from 1 to `most`.
 fn in_range(n: u64, most: u64) -> bool
     ensures { result ≡ within n most }
 {
-    if n < 1 { false } else { n <= most }
+    (1..=most).contains(&n)
 }
 
 // Whether number 13 does not refuse the value.
+#[tactic(auto, unfolding(beliefs::specs::Policy::valid))]
 fn valid(policy: &Policy) -> bool
     ensures { result ≡ valid policy.now }
 {
-    if 1 < policy[0] {
-        return false;
-    }
-    if !in_range(signers(policy), 32) {
-        return false;
-    }
-    if !in_range(targets(policy), 64) {
-        return false;
-    }
-    rows_fit(policy)
+    policy[0] <= 1
+        && in_range(signers(policy), 32)
+        && in_range(targets(policy), 64)
+        && rows_fit(policy)
 }
 
 // The front door: what refuses a policy, 13.
@@ -155,7 +129,7 @@ pub fn decode(policy: &Policy, word: u16, index: usize) -> Decoded
 fn width(n: u64) -> u64
     ensures { result ≡ width n }
 {
-    n / 8 + (n % 8 + 7) / 8
+    n.div_ceil(8)
 }
 
 // How many bytes a policy of s signers and n targets has.
@@ -170,14 +144,7 @@ fn size(s: u64, n: u64) -> u64
 fn mirrored(b: u8) -> u8
     ensures { result ≡ mirrored b }
 {
-    b % 2 * 128
-        + b / 2 % 2 * 64
-        + b / 4 % 2 * 32
-        + b / 8 % 2 * 16
-        + b / 16 % 2 * 8
-        + b / 32 % 2 * 4
-        + b / 64 % 2 * 2
-        + b / 128 % 2
+    b.reverse_bits()
 }
 
 // The row that a row's bytes say, from the last to the first: eight targets to a byte, the highest in the last.
@@ -185,13 +152,10 @@ fn row_of(bytes: &[u8]) -> u64
     requires { length bytes.now ≤ 8 }
     ensures { result ≡ row_of bytes.now }
 {
-    let mut w: u64 = 0;
-    let mut k = bytes.len();
-    while 0 < k {
-        k -= 1;
-        w = w * 256 + mirrored(bytes[k]) as u64;
-    }
-    w
+    bytes
+        .iter()
+        .rev()
+        .fold(0, |row, byte| (row << 8) | u64::from(mirrored(*byte)))
 }
 
 // Row s of the rows after a header, each so many bytes wide: nothing past the last.
@@ -212,14 +176,7 @@ fn padding_clear(bytes: &[u8], rows: u64, wide: u64, n: u64) -> bool
     requires { (2 + rows * wide ≤ length bytes.now) × (wide ≤ 8) }
     ensures { result ≡ all (λ w. below w n) (rows_of rows wide (drop 2 bytes.now)) }
 {
-    let mut s: u64 = 0;
-    while s < rows {
-        if !bits::fits(row_in(bytes, rows, wide, s), n) {
-            return false;
-        }
-        s += 1;
-    }
-    true
+    (0..rows).all(|s| bits::fits(row_in(bytes, rows, wide, s), n))
 }
 
 // The two header bytes as one number.
@@ -227,7 +184,7 @@ fn header(bytes: &[u8]) -> u64
     requires { 2 ≤ length bytes.now }
     ensures { result ≡ header bytes.now }
 {
-    256 * bytes[0] as u64 + bytes[1] as u64
+    u64::from(u16::from_be_bytes([bytes[0], bytes[1]]))
 }
 
 // S, out of the header.
@@ -272,6 +229,7 @@ fn read_number(bytes: &[u8]) -> u8
 
 // How many bytes at the front of a recording are its policy's, by the header: the trace begins there. All of them where the
 // header or the rows fall short, which reading them then refuses.
+#[tactic(auto, unfolding(crate::specs::Read::cut_at))]
 pub fn cut(bytes: &[u8]) -> usize
     ensures { result ≡ cut_at bytes.now }
 {
@@ -280,11 +238,7 @@ pub fn cut(bytes: &[u8]) -> usize
     }
     let h = header(bytes);
     let wanted = size(head_signers(h), head_targets(h)) as usize;
-    if wanted < bytes.len() {
-        wanted
-    } else {
-        bytes.len()
-    }
+    wanted.min(bytes.len())
 }
 
 // The value that accepted bytes say, into the policy.

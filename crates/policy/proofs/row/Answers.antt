@@ -1,8 +1,10 @@
 -- A row past the 32nd is past the value's end, where the definition finds 0.
-use native.Mathlib.Omega.{arith}
-use mathlib.Core.Path.{sym}
-use lib.ListN.{get_or-eq_default}
+use Rattle.std.proofs.Common.{rules, ◌≡◌, ◌∙◌, get_or, take, drop}
+use Rattle.policy.proofs.Fits.{row_found}
 use Rattle.policy.proofs.row.Goals as goal
 
-pub returns-then-signer-gt31 : goal.returns-then-signer-gt31
-returns-then-signer-gt31 c = sym (get_or-eq_default c.args.policy.now 0 (omega arith))
+pub returns : goal.returns
+returns c =
+    let p = c.args.policy.now in
+    let e : c.unwrap_or.result ≡ get_or (take 32 (drop 3 p)) c.args.signer 0 = search rules in
+    e ∙ row_found p c.told-policy c.args.signer

@@ -1,27 +1,21 @@
--- The rows below S and those from S on are each tested together (Fits).
+-- The rows below S and those from S on are each tested together.
 use mathlib.Core.Path.{◌≡◌, ◌∙◌}
 use mathlib.Core.Bool.{◌&&◌}
-use Prim.Native.Nat.{◌+◌, ◌-◌}
-use Rattle.bits.specs.Bit.{below}
+use Rattle.bits.specs.Bit.{all_below}
 use Rattle.beliefs.specs.Lists.{each}
-use Rattle.beliefs.specs.Policy.{signers, row, row_fits}
-use Rattle.policy.proofs.Fits.{rows_parted, nothing_together}
+use Rattle.beliefs.specs.Policy.{row_fits}
+use Rattle.policy.proofs.Fits.{rows_parted}
 use Rattle.policy.proofs.rows_fit.Goals as goal
-use Rattle.policy.proofs.rows_fit.Goals.{After-fits}
+use Rattle.policy.proofs.rows_fit.Goals.{After-all_fit}
 
 -- what is left of the definition once the rows below S were tested
-past : (c : goal.After-fits) → let p = c.args.policy.now in
-    each (row_fits p) 32 ≡ (c.fits.result && each (λ i. below (row p (signers p + i)) 0) (32 - signers p))
+past : (c : goal.After-all_fit) → each (row_fits c.args.policy.now) 32 ≡ (c.all_fit.result && all_below c.split_at.result.1.now 0)
 past c =
-    let a = c.args in
-    rows_parted a.policy.now c.rows_together.result c.requires
-    (rw (← c.signers.ensures) c.rows_together.ensures)
-    ∙ rw (← c.targets.ensures, c.fits.ensures)
+    rows_parted c.args.policy.now c.told-policy c.requires
+    ∙ rw (← c.signers.ensures, ← c.targets.ensures, ← c.split_at.ensures.front, ← c.split_at.ensures.back, ← c.all_fit.ensures)
 
-pub returns-then-not-fits : goal.returns-then-not-fits
-returns-then-not-fits c = rw (past (goal.at.returns-then-not-fits c).After-fits, c.if-not-fits.true)
+pub returns-then-all_fit : goal.returns-then-all_fit
+returns-then-all_fit c = rw (past (goal.at.returns-then-all_fit c).After-all_fit, c.if-all_fit.true) c.all_fit-then-all_fit.ensures
 
-pub returns : goal.returns
-returns c =
-    rw (past (goal.at.returns c).After-fits, c.if-not-fits.false, ← c.signers-2.ensures)
-    (nothing_together _ _ _ _ c.rows_together-2.ensures)
+pub returns-else-all_fit : goal.returns-else-all_fit
+returns-else-all_fit c = rw (past (goal.at.returns-else-all_fit c).After-all_fit, c.if-all_fit.false)
