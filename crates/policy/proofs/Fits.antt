@@ -6,7 +6,7 @@ use Prim.Native.Nat.{ℕ, ◌+◌, ◌-◌, ◌≤◌}
 use native.Mathlib.Nat.{add_assoc}
 use native.Mathlib.Omega.{arith}
 use lib.ListN.{length, get_or, take, drop, length-drop}
-use lib.Seq.{take_all, drop-drop, get_or-drop}
+use lib.Seq.{take_all, get_or-drop}
 use borrow.Author.Tests.{lt-ltb, le-ltb}
 use Rattle.bits.specs.Bit.{below, all_below}
 use Rattle.bits.proofs.Laws.{below_none}
@@ -26,17 +26,15 @@ module _ (p : List ℕ) (h : length p ≡ 35) where
   row_found s = ap (λ (l : List ℕ). get_or l s 0) rows_are ∙ get_or-drop 3 p s 0
 
   pub rows_parted : signers p ≤ 32
-      → each (row_fits p) 32 ≡ (all_below (take (signers p) (take 32 (drop 3 p))) (targets p) && all_below (drop (signers p) (take 32 (drop 3 p))) 0)
+      → each (row_fits p) 32 ≡ (all_below (take (signers p) (drop 3 p)) (targets p) && all_below (take (32 - signers p) (drop (3 + signers p) p)) 0)
   unfolding row_fits
   rows_parted few =
       let s : ℕ = signers p in
       let past : ℕ = 32 - s in
-      let rest : drop s (drop 3 p) ≡ take past (drop (3 + s) p) =
-      drop-drop s 3 p ∙ sym (take_all past (drop (3 + s) p) (omega (arith, length-drop (3 + s) p))) in
-      let below_s : each (row_fits p) s ≡ all_below (take s (take 32 (drop 3 p))) (targets p) =
-      each_ext (row_fits p) (λ i. below (row p i) (targets p)) s (λ i l. rw (lt-ltb i s l)) ∙ sym (rw rows_are (part_below p 3 s (targets p) (omega arith))) in
-      let from_s : each (λ i. row_fits p (s + i)) past ≡ all_below (drop s (take 32 (drop 3 p))) 0 =
+      let below_s : each (row_fits p) s ≡ all_below (take s (drop 3 p)) (targets p) =
+      each_ext (row_fits p) (λ i. below (row p i) (targets p)) s (λ i l. rw (lt-ltb i s l)) ∙ sym (part_below p 3 s (targets p) (omega arith)) in
+      let from_s : each (λ i. row_fits p (s + i)) past ≡ all_below (take past (drop (3 + s) p)) 0 =
       each_ext (λ i. row_fits p (s + i)) (λ i. below (get_or p (3 + s + i) 0) 0) past
       (λ i l. rw (le-ltb (s + i) s (omega arith), ← add_assoc 3 s i) (sym (below_none _)))
-      ∙ sym (rw (rows_are, rest) (part_below p (3 + s) past 0 (omega arith))) in
+      ∙ sym (part_below p (3 + s) past 0 (omega arith)) in
       ap (each (row_fits p)) (omega arith) ∙ each_sum (row_fits p) s past ∙ ap₂ (λ (x y : Bool). x && y) below_s from_s

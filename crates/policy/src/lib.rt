@@ -52,6 +52,7 @@ pub fn targets(policy: &Policy) -> u64
 }
 
 // The targets that a signer is permitted, a bit each: none for a signer over 31.
+#[tactic(auto, using(crate::proofs::Fits::row_found))]
 pub fn row(policy: &Policy, signer: u64) -> u64
     ensures { result ≡ row policy.now signer }
 {
@@ -59,12 +60,13 @@ pub fn row(policy: &Policy, signer: u64) -> u64
 }
 
 // Whether the rows are as number 13 asks: below S no target at N or above, from S on nothing.
+#[tactic(auto, using(crate::proofs::Fits::rows_parted))]
 fn rows_fit(policy: &Policy) -> bool
     requires { signers policy.now ≤ 32 }
     ensures { result ≡ each (row_fits policy.now) 32 }
 {
-    let (below, past) = policy[3..].split_at(signers(policy) as usize);
-    bits::all_fit(below, targets(policy)) && bits::all_fit(past, 0)
+    let end = 3 + signers(policy) as usize;
+    bits::all_fit(&policy[3..end], targets(policy)) && bits::all_fit(&policy[end..], 0)
 }
 
 // Whether n is from 1 to `most`.
@@ -141,6 +143,7 @@ fn size(s: u64, n: u64) -> u64
 }
 
 // A byte's bits in the other order: target 0 comes first, and the first bit is the most significant.
+#[tactic(auto, using(crate::proofs::Rows::mirrored_reversed))]
 fn mirrored(b: u8) -> u8
     ensures { result ≡ mirrored b }
 {
@@ -246,8 +249,6 @@ fn store(bytes: &[u8], policy: &mut Policy)
     requires { read_number bytes.now ≡ 0 }
     ensures { policy.new ≡ value_read bytes.now }
 {
-    // As a slice, so that its length is known.
-    let whole: &[u64] = policy;
     let h = header(bytes);
     let rows = head_signers(h);
     let n = head_targets(h);
@@ -255,10 +256,8 @@ fn store(bytes: &[u8], policy: &mut Policy)
     policy[0] = h / 32768;
     policy[1] = rows;
     policy[2] = n;
-    let mut s: usize = 0;
-    while s < 32 {
-        policy[3 + s] = row_in(bytes, rows, wide, s as u64);
-        s += 1;
+    for (s, row) in policy[3..].iter_mut().enumerate() {
+        *row = row_in(bytes, rows, wide, s as u64);
     }
 }
 
@@ -275,24 +274,22 @@ pub fn read(bytes: &[u8], policy: &mut Policy) -> u8
 }
 
 // The header of a valid policy as one number.
-fn headed(policy: &Policy) -> u64
+#[tactic(auto, using(beliefs::proofs::Policy::ranges))]
+fn headed(policy: &Policy) -> u16
     requires { valid policy.now ≡ true }
     ensures { result ≡ headed policy.now }
 {
-    policy[0] * 32768 + (policy[1] - 1) * 1024 + (policy[2] - 1) * 16
+    (policy[0] * 32768 + (policy[1] - 1) * 1024 + (policy[2] - 1) * 16) as u16
 }
 
-// A row's bytes, from the first to the last, at a place of the buffer.
-fn put_row(bytes: &mut [u8], at: usize, wide: u64, row: u64)
-    requires { at + wide ≤ length bytes.old }
-    ensures { bytes.new ≡ sets bytes.old at (row_bytes wide row) }
+// A row's bytes, from the first to the last, into their place.
+fn put_row(row: u64, place: &mut [u8])
+    ensures { place.new ≡ row_bytes (length place.old) row }
 {
-    let mut w = row;
-    let mut k: usize = 0;
-    while k < wide as usize {
-        bytes[at + k] = mirrored((w % 256) as u8);
-        w /= 256;
-        k += 1;
+    let mut rest = row;
+    for byte in place.iter_mut() {
+        *byte = mirrored((rest % 256) as u8);
+        rest /= 256;
     }
 }
 
@@ -301,13 +298,9 @@ fn put_rows(policy: &Policy, wide: u64, bytes: &mut [u8])
     requires { (signers policy.now ≤ 32) × (2 + signers policy.now * wide ≤ length bytes.old) }
     ensures { bytes.new ≡ sets bytes.old 2 (rows_bytes wide (take (signers policy.now) (drop 3 policy.now))) }
 {
-    // As a slice, so that its length is known.
-    let whole: &[u64] = policy;
-    let rows = signers(policy);
-    let mut s: u64 = 0;
-    while s < rows {
-        put_row(bytes, (2 + s * wide) as usize, wide, row(policy, s));
-        s += 1;
+    for s in 0..signers(policy) {
+        let at = (2 + s * wide) as usize;
+        put_row(row(policy, s), &mut bytes[at..at + wide as usize]);
     }
 }
 
@@ -316,11 +309,8 @@ fn put(policy: &Policy, bytes: &mut [u8])
     requires { (valid policy.now ≡ true) × (size (signers policy.now) (targets policy.now) ≤ length bytes.old) }
     ensures { bytes.new ≡ sets bytes.old 0 (bytes_written policy.now) }
 {
-    let h = headed(policy);
-    let wide = width(targets(policy));
-    bytes[0] = (h / 256) as u8;
-    bytes[1] = (h % 256) as u8;
-    put_rows(policy, wide, bytes);
+    bytes[..2].copy_from_slice(&headed(policy).to_be_bytes());
+    put_rows(policy, width(targets(policy)), bytes);
 }
 
 // The policy's one byte form into a lent buffer: 13, 9. No byte past it is touched, and none where the number is not 0.
