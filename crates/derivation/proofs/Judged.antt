@@ -1,8 +1,8 @@
 -- The checker's loop and the guards before it: what is left to judge after each step, and what the guards leave of a report. Assumes nothing.
 use mathlib.Core.Path.{◌≡◌, refl, sym, ap, ◌∙◌}
-use mathlib.Core.Logic.{◌≢◌}
-use mathlib.Core.Bool.{Bool, true, false, cond, ◌&&◌, ◌||◌}
-use mathlib.Core.Option.{Option, some, none, Option-elim}
+use mathlib.Core.Logic.{◌≢◌, ◌⊎◌, ⊎_elim}
+use mathlib.Core.Bool.{Bool, true, false, cond, ◌&&◌, ◌||◌, and-false}
+use mathlib.Core.Option.{some, none, Option-elim}
 use mathlib.Core.List.{List, []}
 use Prim.Native.Nat.{ℕ, zero, suc, ◌+◌, ◌*◌, ◌%◌, ◌≤◌, ◌<◌}
 use native.Mathlib.Omega.{arith}
@@ -10,7 +10,7 @@ use native.Mathlib.Numerals.{add-one}
 use lib.Dec.{eqb}
 use lib.ListN.{length, get_or, drop, drop_of_length-le}
 use lib.Seq.{drop-cons}
-use borrow.Author.Tests.{ne_eqb, lt-ltb, le-ltb}
+use borrow.Author.Tests.{eq-eqb, ne_eqb, lt-ltb, le-ltb}
 use Rattle.beliefs.specs.declared.Marked.{Marked}
 use Rattle.beliefs.specs.declared.Seen.{Seen}
 use Rattle.beliefs.specs.Lists.{empty}
@@ -20,13 +20,14 @@ use Rattle.answers.proofs.Given.{barring_twice}
 use Rattle.words.specs.declared.Operation.TheVariants.{Check}
 use Rattle.beliefs.specs.Policy.{Policy, Target, refusal_in, refusal_of}
 use Rattle.beliefs.specs.Stack.{walk}
-use Rattle.beliefs.specs.Derivation.{Entry, rule, follow, judge, unasked, judged, ours, shown, derived}
+use Rattle.beliefs.specs.Derivation.{Entry, may_take, taken, rule, place, follow, judge, unasked, judged, ours, shown, derived}
 use Rattle.walk.specs.Layout.{depth, frames}
 use Rattle.walk.specs.Fits.{fits}
 use Rattle.walk.proofs.Frames.{frames_at_length, six_bits}
 use Rattle.derivation.specs.declared.Chain.{Chain}
-use Rattle.derivation.specs.Chain.{entry_at, firsts, entries, Held, held, with_took}
+use Rattle.derivation.specs.Chain.{entry_at, firsts, entries}
 use Rattle.derivation.specs.Promise.{barred, checking, writing}
+use Rattle.derivation.proofs.Accepted.{none_some}
 
 pub empty_entries : (ms : List Marked) (ch : Chain) → empty (entries ms ch) ≡ eqb ch.len 0
 empty_entries ms ch = go ch.len
@@ -35,43 +36,68 @@ empty_entries ms ch = go ch.len
     go zero = refl
     go (suc n) = sym (ne_eqb (suc n) 0 (omega arith))
 
+-- whether a step was made: from no chain the first that is allowed is a take
+abbrev pub went : ℕ → Bool
+went zero = false
+went (suc i) = true
+
+first_takes : (p : List ℕ) (ms : List Marked) (t b : ℕ) (l : List Entry) → follow p ms t b [] ≡ some l → eqb (rule b) 0 ≡ true
+unfolding follow
+first_takes p ms t b l h = go (eqb (rule b) 0) (eqb (rule b) 1) (eqb (rule b) 2) (eqb (place b) 0) h
+  where
+    go : (zeroth one two first : Bool)
+        → cond zeroth (cond (may_take t (place b) ms) (some (taken (place b) ms)) none) (cond one none (cond two none (cond first none none))) ≡ some l
+        → zeroth ≡ true
+    go true one two first k = refl
+    go false true two first k = absurd (none_some l k)
+    go false false true first k = absurd (none_some l k)
+    go false false false true k = absurd (none_some l k)
+    go false false false false k = absurd (none_some l k)
+
 module _ (p : List ℕ) (ms : List Marked) (t : ℕ) (steps : List ℕ) (i : ℕ) (ch : Chain) where
   -- what is left to judge
   abbrev pub left : Account
-  left = judge p ms t ch.taken i (entries ms ch) (drop i steps)
+  left = judge p ms t (went i) i (entries ms ch) (drop i steps)
 
-  pub at_end : i ≡ length steps → left ≡ cond (ch.taken && eqb ch.len 0) (told 0 i) (told not_empty 0)
-  unfolding judge
-  at_end e = rw (drop_of_length-le steps {i = i} (omega arith), empty_entries ms ch)
+  -- past the last step: accepted if there was one and nothing is left of the chain
+  module _ (end : i ≡ length steps) where
+    ended : left ≡ cond (went i && eqb ch.len 0) (told 0 i) (told not_empty 0)
+    unfolding judge
+    ended = rw (drop_of_length-le steps {i = i} (omega arith), empty_entries ms ch)
+
+    pub unfinished : (i ≡ 0) ⊎ (ch.len ≢ 0) → left ≡ told not_empty 0
+    unfinished h = ended ∙ ⊎_elim (λ z. rw z) (λ more. rw (ne_eqb ch.len 0 more, and-false (went i))) h
+
+    pub finished : i ≢ 0 → ch.len ≡ 0 → left ≡ told 0 (length steps)
+    finished went_on gone = rw (← end) (ended ∙ rw (there i went_on, eq-eqb ch.len 0 gone))
+      where
+        there : (k : ℕ) → k ≢ 0 → went k ≡ true
+        there zero h = absurd (h refl)
+        there (suc k) h = refl
 
   module _ (more : i < length steps) where
     one : left ≡ Option-elim (follow p ms t (get_or steps i 0) (entries ms ch)) (told not_allowed i)
-        (λ (l : List Entry). judge p ms t (ch.taken || eqb (rule (get_or steps i 0)) 0) (suc i) l (drop (suc i) steps))
+        (λ (l : List Entry). judge p ms t (went i || eqb (rule (get_or steps i 0)) 0) (suc i) l (drop (suc i) steps))
     unfolding judge
-    one = ap (judge p ms t ch.taken i (entries ms ch)) (drop-cons steps i 0 more)
+    one = ap (judge p ms t (went i) i (entries ms ch)) (drop-cons steps i 0 more)
 
-    pub refused : none ≡ with_took (ch.taken || eqb (rule (get_or steps i 0)) 0) (follow p ms t (get_or steps i 0) (entries ms ch)) → left ≡ told not_allowed i
+    pub refused : none ≡ follow p ms t (get_or steps i 0) (entries ms ch) → left ≡ told not_allowed i
     unfolding Option-elim
-    refused h = one ∙ go (ch.taken || eqb (rule (get_or steps i 0)) 0) (follow p ms t (get_or steps i 0) (entries ms ch)) h
-      where
-        go : (took : Bool) (y : Option (List Entry)) → none ≡ with_took took y
-            → Option-elim y (told not_allowed i) (λ (l : List Entry). judge p ms t took (suc i) l (drop (suc i) steps)) ≡ told not_allowed i
-        go took none k = refl
-        go took (some l) k = cc
+    refused h = one ∙ rw (← h)
 
-    pub onward : (next : Chain) → some (held ms next)
-        ≡ with_took (ch.taken || eqb (rule (get_or steps i 0)) 0) (follow p ms t (get_or steps i 0) (entries ms ch))
-        → left ≡ judge p ms t next.taken (i + 1) (entries ms next) (drop (i + 1) steps)
-    unfolding Option-elim
-    onward next h = rw add-one (one ∙ go (ch.taken || eqb (rule (get_or steps i 0)) 0) (follow p ms t (get_or steps i 0) (entries ms ch)) h)
-      where
-        go : (took : Bool) (y : Option (List Entry)) → some (held ms next) ≡ with_took took y
-            → Option-elim y (told not_allowed i) (λ (l : List Entry). judge p ms t took (suc i) l (drop (suc i) steps)) ≡ judge p ms t next.taken (suc i)
-            (entries ms next) (drop (suc i) steps)
-        go took none k = cc
-        go took (some l) k =
-            let h : held ms next ≡ record { took = took; chain = l } = cc in
-            sym (ap (λ (x : Held). judge p ms t x.took (suc i) x.chain (drop (suc i) steps)) h)
+    -- before any step the chain is empty
+    module _ (begun : i ≡ 0 → ch.len ≡ 0) where
+      goes : (l : List Entry) → follow p ms t (get_or steps i 0) (entries ms ch) ≡ some l → (went i || eqb (rule (get_or steps i 0)) 0) ≡ true
+      goes l h = go i refl
+        where
+          go : (k : ℕ) → i ≡ k → (went k || eqb (rule (get_or steps i 0)) 0) ≡ true
+          go zero e = first_takes p ms t (get_or steps i 0) l (rw (begun e) at h)
+          go (suc k) e = refl
+
+      pub onward : (next : Chain) → some (entries ms next) ≡ follow p ms t (get_or steps i 0) (entries ms ch)
+          → left ≡ judge p ms t (went (i + 1)) (i + 1) (entries ms next) (drop (i + 1) steps)
+      unfolding Option-elim
+      onward next h = rw add-one (one ∙ rw (goes (entries ms next) (sym h)) (rw (← h)))
 
 -- the guards are the front door's, before any report a over the state's frames
 module _ (p : Policy) (s : List ℕ) (t : Target) where
