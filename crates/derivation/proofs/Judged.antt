@@ -1,26 +1,26 @@
 -- The checker's loop and the guards before it: what is left to judge after each step, and what the guards leave of a report. Assumes nothing.
 use mathlib.Core.Path.{◌≡◌, refl, sym, ap, ◌∙◌}
-use mathlib.Core.Logic.{◌≢◌, ◌⊎◌, ⊎_elim}
-use mathlib.Core.Bool.{Bool, true, false, cond, ◌&&◌, ◌||◌, and-false}
+use mathlib.Core.Logic.{◌≢◌}
+use mathlib.Core.Bool.{Bool, true, false, cond, ◌&&◌, ◌||◌}
 use mathlib.Core.Option.{some, none, Option-elim}
 use mathlib.Core.List.{List, []}
-use Prim.Native.Nat.{ℕ, zero, suc, ◌+◌, ◌*◌, ◌%◌, ◌≤◌, ◌<◌}
+use Prim.Native.Nat.{ℕ, zero, suc, ◌+◌, ◌%◌, ◌<◌}
 use native.Mathlib.Omega.{arith}
 use native.Mathlib.Numerals.{add-one}
 use lib.Dec.{eqb}
 use lib.ListN.{length, get_or, drop, drop_of_length-le}
 use lib.Seq.{drop-cons}
-use borrow.Author.Tests.{eq-eqb, ne_eqb, lt-ltb, le-ltb}
+use borrow.Author.Tests.{ne_eqb}
 use Rattle.beliefs.specs.declared.Marked.{Marked}
 use Rattle.beliefs.specs.declared.Seen.{Seen}
 use Rattle.beliefs.specs.Lists.{empty}
-use Rattle.answers.specs.Numbers.{no_room, not_allowed, not_empty, forbidden}
+use Rattle.answers.specs.Numbers.{not_allowed, not_empty, unless}
 use Rattle.answers.specs.Account.{Account, told, barring}
 use Rattle.answers.proofs.Given.{barring_twice}
 use Rattle.words.specs.declared.Operation.TheVariants.{Check}
 use Rattle.beliefs.specs.Policy.{Policy, Target, refusal_in, refusal_of}
 use Rattle.beliefs.specs.Stack.{walk}
-use Rattle.beliefs.specs.Derivation.{Entry, may_take, taken, rule, place, follow, judge, unasked, judged, ours, shown, derived}
+use Rattle.beliefs.specs.Derivation.{Entry, may_take, taken, rule, place, follow, judge, unasked, judged, shown, derived}
 use Rattle.walk.specs.Layout.{depth, frames}
 use Rattle.walk.specs.Fits.{fits}
 use Rattle.walk.proofs.Frames.{frames_at_length, six_bits}
@@ -54,26 +54,23 @@ first_takes p ms t b l h = go (eqb (rule b) 0) (eqb (rule b) 1) (eqb (rule b) 2)
     go false false false true k = absurd (none_some l k)
     go false false false false k = absurd (none_some l k)
 
+pub went_on : (i : ℕ) → i ≢ 0 → went i ≡ true
+went_on zero h = absurd (h refl)
+went_on (suc i) h = refl
+
 module _ (p : List ℕ) (ms : List Marked) (t : ℕ) (steps : List ℕ) (i : ℕ) (ch : Chain) where
   -- what is left to judge
   abbrev pub left : Account
   left = judge p ms t (went i) i (entries ms ch) (drop i steps)
 
-  -- past the last step: accepted if there was one and nothing is left of the chain
-  module _ (end : i ≡ length steps) where
-    ended : left ≡ cond (went i && eqb ch.len 0) (told 0 i) (told not_empty 0)
-    unfolding judge
-    ended = rw (drop_of_length-le steps {i = i} (omega arith), empty_entries ms ch)
-
-    pub unfinished : (i ≡ 0) ⊎ (ch.len ≢ 0) → left ≡ told not_empty 0
-    unfinished h = ended ∙ ⊎_elim (λ z. rw z) (λ more. rw (ne_eqb ch.len 0 more, and-false (went i))) h
-
-    pub finished : i ≢ 0 → ch.len ≡ 0 → left ≡ told 0 (length steps)
-    finished went_on gone = rw (← end) (ended ∙ rw (there i went_on, eq-eqb ch.len 0 gone))
-      where
-        there : (k : ℕ) → k ≢ 0 → went k ≡ true
-        there zero h = absurd (h refl)
-        there (suc k) h = refl
+  -- past the last step: accepted where one was made and nothing is left of the chain
+  pub ended : i ≡ length steps → (b : Bool) → b ≡ (went i && eqb ch.len 0) → left ≡ barring (unless b not_empty) (told 0 (length steps))
+  unfolding judge
+  ended e b h = rw (← e, drop_of_length-le steps {i = i} (omega arith), empty_entries ms ch, ← h) (go b)
+    where
+      go : (b : Bool) → cond b (told 0 i) (told not_empty 0) ≡ barring (unless b not_empty) (told 0 i)
+      go true = refl
+      go false = refl
 
   module _ (more : i < length steps) where
     one : left ≡ Option-elim (follow p ms t (get_or steps i 0) (entries ms ch)) (told not_allowed i)
@@ -137,16 +134,5 @@ module _ (p : Policy) (s : List ℕ) (t : Target) where
       pub written : writing p s t room ≡ shown seen.granted seen.looked room
       written = rw e (write_door room ∙ let_through _)
 
-      pub write_forbidden : seen.granted ≡ false → writing p s t room ≡ told forbidden 0
-      write_forbidden g = rw (written, g)
-
-      few : seen.looked % 64 ≡ seen.looked
-      few = six_bits p s t seen e
-
-      module _ (g : seen.granted ≡ true) where
-        pub write_short : room < 3 * (seen.looked % 64) + 1 → writing p s t room ≡ told no_room 0
-        write_short h = rw (written, g) (rw (← few, lt-ltb room _ h))
-
-        pub write_done : 3 * (seen.looked % 64) + 1 ≤ room
-            → writing p s t room ≡ record { number = 0; figure = 3 * (seen.looked % 64) + 1; written = ours (seen.looked % 64) }
-        write_done h = rw (written, g) (rw (few, le-ltb room (3 * seen.looked + 1) (rw few at h)))
+      pub written_here : writing p s t room ≡ shown seen.granted (seen.looked % 64) room
+      written_here = written ∙ ap (λ (n : ℕ). shown seen.granted n room) (sym (six_bits p s t seen e))

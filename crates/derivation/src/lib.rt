@@ -7,15 +7,15 @@ ghost use Rattle.std.proofs.lemmas.List.Edits.{sets};
 ghost use Rattle.bits.specs.Bit.{bit};
 ghost use Rattle.beliefs.specs.declared.Marked.{Marked};
 ghost use Rattle.beliefs.specs.Lists.{all, empty};
-ghost use Rattle.answers.specs.Numbers.{not_empty};
-ghost use Rattle.answers.specs.Account.{told, Reports, Tells};
+ghost use Rattle.answers.specs.Numbers.{number_of};
+ghost use Rattle.answers.specs.Account.{Reports, Tells, report_of};
 ghost use Rattle.beliefs.specs.Derivation.{may_take, taken, spoken, allowed, at_place, drop_last, rule, place, follow, judge, at_places, ours};
 ghost use Rattle.walk.specs.Layout.{frames};
 ghost use Rattle.derivation.specs.Rule.{number};
 ghost use Rattle.derivation.specs.Chain.{entries, outcome, Leaves};
 ghost use Rattle.derivation.specs.Promise.{barred, checking, writing};
 
-use answers::Report;
+use answers::{Refusal, Report, Stop};
 use policy::Policy;
 use walk::State;
 use words::Operation;
@@ -147,33 +147,22 @@ fn follow(policy: &Policy, state: &State, target: u8, step: u8, chain: Chain) ->
 
 // The steps in order, from no chain: 10 with the step's index, 11. From an empty chain only a take is allowed, so where there is a step, one was taken.
 fn judge(policy: &Policy, state: &State, target: u8, steps: &[u8]) -> Report
-    ensures { Tells result (judge policy.now (frames state.now) target false 0 [] steps.now) }
+    ensures { Tells (report_of result) (judge policy.now (frames state.now) target false 0 [] steps.now) }
 {
     let mut chain = Chain::default();
     for (i, step) in steps.iter().enumerate() {
-        match follow(policy, state, target, *step, chain) {
-            Some(next) => chain = next,
-            None => return Report {
-                number: answers::NOT_ALLOWED,
-                figure: i as u64,
-            },
-        }
+        chain = follow(policy, state, target, *step, chain).ok_or(Stop {
+            why: Refusal::NotAllowed,
+            at: i as u64,
+        })?;
     }
-    if steps.is_empty() || chain.len != 0 {
-        return Report {
-            number: answers::NOT_EMPTY,
-            figure: 0,
-        };
-    }
-    Report {
-        number: answers::ACCEPTED,
-        figure: steps.len() as u64,
-    }
+    answers::unless(!steps.is_empty() && chain.len == 0, Refusal::NotEmpty)?;
+    Ok(steps.len() as u64)
 }
 
-// What refuses before any step is looked at or written, as it would the check itself: 13, 14, 6, 7, else 0.
-fn barred(policy: &Policy, state: &State, target: u8) -> u8
-    ensures { result ≡ barred policy.now state.now target }
+// What refuses before any step is looked at or written, as it would the check itself: 13, 14, 6, 7.
+fn barred(policy: &Policy, state: &State, target: u8) -> Result<(), Refusal>
+    ensures { number_of result ≡ barred policy.now state.now target }
 {
     policy::refusal_of(
         policy,
@@ -183,14 +172,11 @@ fn barred(policy: &Policy, state: &State, target: u8) -> u8
     )
 }
 
-// Whether a derivation is accepted: 13, 14, 6, 7, 10, 11, else 0 and the number of its steps.
+// The number of a derivation's steps, where it is accepted: 13, 14, 6, 7, 10, 11.
 pub fn check(policy: &Policy, state: &State, target: u8, steps: &[u8]) -> Report
-    ensures { Tells result (checking policy.now state.now target steps.now) }
+    ensures { Tells (report_of result) (checking policy.now state.now target steps.now) }
 {
-    let number = barred(policy, state, target);
-    if number != answers::ACCEPTED {
-        return Report { number, figure: 0 };
-    }
+    barred(policy, state, target)?;
     judge(policy, state, target, steps)
 }
 
@@ -215,32 +201,17 @@ fn write_ours(steps: &mut [u8], n: usize)
     steps[2 * n + 1..3 * n + 1].fill(Rule::Drop.at(0));
 }
 
-// Writes the derivation for a granted check: 13, 14, 6, 7, 12, 9, else 0 and the number of its steps.
+// Writes the derivation for a granted check, and reports the number of its steps: 13, 14, 6, 7, 12, 9.
 pub fn write(policy: &Policy, state: &State, target: u8, steps: &mut [u8]) -> Report
-    ensures { Reports result steps.old steps.new
+    ensures { Reports (report_of result) steps.old steps.new
         (writing policy.now state.now target (length steps.old)) }
 {
-    let number = barred(policy, state, target);
-    if number != answers::ACCEPTED {
-        return Report { number, figure: 0 };
-    }
+    barred(policy, state, target)?;
     let seen = walk::check(policy, state, target);
-    if !seen.granted {
-        return Report {
-            number: answers::FORBIDDEN,
-            figure: 0,
-        };
-    }
+    answers::unless(seen.granted, Refusal::Forbidden)?;
     let n = (seen.looked % 64) as usize;
-    if steps.len() < 3 * n + 1 {
-        return Report {
-            number: answers::NO_ROOM,
-            figure: 0,
-        };
-    }
+    let wanted = 3 * n + 1;
+    answers::unless(wanted <= steps.len(), Refusal::NoRoom)?;
     write_ours(steps, n);
-    Report {
-        number: answers::ACCEPTED,
-        figure: (3 * n + 1) as u64,
-    }
+    Ok(wanted as u64)
 }
