@@ -81,6 +81,7 @@ pub fn frame(state: &State, place: u64) -> Marked
 }
 
 // What a frame decides of a check: its verdict, or `None` where the walk goes on below it. The target is asked by the word of its bit.
+#[tactic(auto, unfolding(beliefs::specs::Policy::permits))]
 fn decided(policy: &Policy, frame: Marked, asked: u64) -> Option<bool>
     ensures { (t : ℕ) → asked ≡ with_bit 0 t → result ≡ decided policy.now t frame }
 {
@@ -96,6 +97,7 @@ fn decided(policy: &Policy, frame: Marked, asked: u64) -> Option<bool>
 }
 
 // The walk from the newest frame to the oldest: the verdict on a target, and the frames looked at.
+#[tactic(auto, using(crate::proofs::Turn::start, crate::proofs::Turn::bottom, crate::proofs::Turn::decides_here, crate::proofs::Turn::onward))]
 pub fn check(policy: &Policy, state: &State, target: u8) -> Seen
     ensures { result ≡ walk policy.now target (frames state.now) }
 {
@@ -213,6 +215,7 @@ pub fn serve(policy: &Policy, state: &mut State, op: Operation) -> Answer
 
 // Whether every frame has a signer below S, and marks for targets below N only. One test of their marks together is quicker
 // than one for each.
+#[tactic(auto, using(crate::proofs::Fits::none_in_use, crate::proofs::Fits::one_in_use, crate::proofs::Fits::one_not_in_use))]
 fn frames_fit(policy: &Policy, state: &State) -> bool
     ensures { result ≡ each (in_use policy.now state.now) (depth state.now) }
 {
