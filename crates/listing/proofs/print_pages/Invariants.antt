@@ -7,4 +7,4 @@ abbrev pub invariant-loop-place : goal.invariant-loop-place
 invariant-loop-place g l = length l.page ≡ 65536
 
 abbrev pub decreases-loop-place : goal.decreases-loop-place
-decreases-loop-place g l = places l.trace l.report - l.place
+decreases-loop-place g l = places l.run.trace.now l.run.report - l.place

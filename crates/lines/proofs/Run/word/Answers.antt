@@ -9,9 +9,8 @@ use Rattle.words.specs.declared.Operation.TheVariants.{Call, Return, Enable, Dis
 use Rattle.words.specs.declared.Decoded.{Decoded}
 use Rattle.beliefs.specs.Policy.{reading}
 use Rattle.lines.specs.Text.{op_line, decoded_line, word_line}
-use Rattle.lines.proofs.After.{none}
-use Rattle.lines.proofs.put_word.Goals as goal
-use Rattle.lines.proofs.put_word.Goals.{After-decode-decoded}
+use Rattle.lines.proofs.Run.word.Goals as goal
+use Rattle.lines.proofs.Run.word.Goals.{After-decode}
 
 -- an operation that is not check
 other : (op : Operation) (i answer : ℕ) → ((t : ℕ) → op ≡ Check t → ⊥) → op_line op i answer ≡ []
@@ -23,22 +22,22 @@ other (Revert t) i answer h = refl
 other (Check t) i answer h = absurd (h t refl)
 
 -- the line, by what the word was decoded to
-line : (c : goal.After-decode-decoded) → let a = c.args in
-    word_line a.policy.now a.trace.now a.answers.now a.index ≡ decoded_line c.decode-decoded.result (get_or a.answers.now a.index 0)
+line : (c : After-decode) → let run = c.args.self.now in
+    word_line run.policy.now run.trace.now run.answers.now c.args.index ≡ decoded_line c.decode.result (get_or run.answers.now c.args.index 0)
 unfolding word_line
 line c =
-    let a = c.args in
-    let said = c.decode-decoded.ensures ∙ ap (λ (w : ℕ). reading a.policy.now w a.index) c.word_at.ensures in
-    ap (λ (d : Decoded). decoded_line d (get_or a.answers.now a.index 0)) (sym said)
+    let run = c.args.self.now in
+    let said = c.decode.ensures ∙ ap (λ (w : ℕ). reading run.policy.now w c.args.index) c.word_at-word.ensures in
+    ap (λ (d : Decoded). decoded_line d (get_or run.answers.now c.args.index 0)) (sym said)
 
 pub returns-in_default : goal.returns-in_default
-returns-in_default c = rw (line (goal.at.returns-in_default c).After-decode-decoded, c.in_default.is) none
+returns-in_default c = rw (line (goal.at.returns-in_default c).After-decode, c.in_default.is) c.new.ensures
 
 pub returns-in-Check : goal.returns-in-Check
 returns-in-Check c =
-    rw (line (goal.at.returns-in-Check c).After-decode-decoded, c.in-Word.is, c.in-Check.is)
-    (rw c.answer_at.ensures at c.put_check.ensures)
+    let answer : c.unwrap_or-answer.result ≡ get_or c.args.self.now.answers.now c.args.index 0 = search rules in
+    rw (line (goal.at.returns-in-Check c).After-decode, c.in-Word.is, c.in-Check.is, ← answer) c.check_text.ensures
 
 pub returns-in_default-op : goal.returns-in_default-op
 returns-in_default-op c =
-    rw (line (goal.at.returns-in_default-op c).After-decode-decoded, c.in-Word.is, other c.in-Word.w.op _ _ (search rules)) none
+    rw (line (goal.at.returns-in_default-op c).After-decode, c.in-Word.is, other c.in-Word.w.op _ _ (search rules)) c.new-in_default-op.ensures
