@@ -6,11 +6,9 @@ use mathlib.Core.List.{List}
 use Prim.Native.Nat.{ℕ}
 use lib.Dec.{eqb}
 use borrow.Author.Tests.{eqb-true, eq-eqb}
-use Rattle.answers.specs.declared.Answer.{Answer}
-use Rattle.answers.specs.declared.Report.{Report}
 use Rattle.answers.specs.Numbers.{first}
-use Rattle.answers.specs.Answer.{Moved, Gives}
-use Rattle.answers.specs.Account.{Account, told, barring, Reports}
+use Rattle.answers.specs.Answer.{Answer, Moved, Gives}
+use Rattle.answers.specs.Account.{Account, Report, told, barring, Reports}
 
 pub gives : {r : Answer} {left : List ℕ} {m : Moved (List ℕ)} → r ≡ record { number = m.number; byte = m.byte } → left ≡ m.state → Gives r left m
 gives a e = record { number = ap (λ (x : Answer). x.number) a; byte = ap (λ (x : Answer). x.byte) a; state = e }

@@ -1,3 +1,4 @@
+pub mod Refusals
 pub mod Unique
 pub mod Numbers
 pub mod Given

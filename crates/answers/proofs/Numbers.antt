@@ -4,9 +4,10 @@ use mathlib.Core.Logic.{◌≢◌}
 use mathlib.Core.Bool.{Bool, true, false, cond}
 use Prim.Native.Nat.{ℕ, suc, ◌≤◌}
 use native.Mathlib.Omega.{arith}
-use lib.Dec.{eqb}
-use borrow.Author.Tests.{eqb-true, eqb-false, ne_eqb}
-use Rattle.answers.specs.Numbers.{unless, first}
+use lib.Dec.{eqb, ltb, leb}
+use borrow.Author.Tests.{eqb-true, eqb-false, ne_eqb, ltb-true, ltb-false, lt-leb, le-leb}
+use Rattle.answers.specs.Numbers.{no_room, unless, first}
+use Rattle.answers.specs.Account.{short_of}
 
 -- a test that refuses where it holds, by the number after n
 pub spared : (b : Bool) (n x : ℕ) → cond b (suc n) x ≡ 0 → (b ≡ false) × (x ≡ 0)
@@ -20,6 +21,14 @@ met false n x h = absurd (omega arith)
 
 pub held : (b : Bool) (n : ℕ) → unless b (suc n) ≡ 0 → b ≡ true
 held b n h = (met b n 0 h).0
+
+-- the test for room, turned round
+pub room : (wanted has : ℕ) → unless (leb wanted has) no_room ≡ short_of wanted has
+room wanted has = go (ltb has wanted) refl
+  where
+    go : (e : Bool) → ltb has wanted ≡ e → unless (leb wanted has) no_room ≡ cond e no_room 0
+    go true q = rw (lt-leb wanted has (ltb-true has wanted q))
+    go false q = rw (le-leb wanted has (ltb-false has wanted q))
 
 -- two that come to 0 together do so each
 pub neither : (n m : ℕ) → first n m ≡ 0 → (n ≡ 0) × (m ≡ 0)

@@ -1,8 +1,8 @@
 -- What a function that reports answers, and what it leaves in the buffer lent to it.
-use Rattle.std.specs.Prelude.{◌≡◌, cond, List, [], ◌++◌, ℕ, eqb, ltb}
+use Rattle.std.specs.Prelude.{◌≡◌, cond, List, [], ◌++◌, ℕ, eqb, ltb, Result, Ok, Err}
 use Rattle.std.proofs.lemmas.List.Edits.{sets}
-use Rattle.answers.specs.Numbers.{no_room}
-use Rattle.answers.specs.declared.Report.{Report}
+use Rattle.answers.specs.declared.Stop.{Stop}
+use Rattle.answers.specs.Numbers.{number, no_room}
 
 -- the number for no (0: accepted), the figure, and the bytes written at the front of the lent buffer
 pub record Account : Type 0 where
@@ -23,6 +23,15 @@ barring n a = cond (eqb n 0) a (told n 0)
 -- 9: room for so many bytes is less than would be written
 abbrev pub short_of : ℕ → ℕ → ℕ
 short_of wanted room = cond (ltb room wanted) no_room 0
+
+-- what is reported: the number for no (0: accepted), and the figure, which of a stop is its index
+pub record Report : Type 0 where
+  pub number : ℕ
+  pub figure : ℕ
+
+abbrev pub report_of : Result ℕ Stop → Report
+report_of (Ok k) = record { number = 0; figure = k }
+report_of (Err s) = record { number = number s.why; figure = s.at }
 
 -- the promise: the report is the account's, and every other byte of the buffer is as it was lent
 pub record Reports (r : Report) (lent left : List ℕ) (a : Account) : Type 0 where

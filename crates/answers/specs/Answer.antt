@@ -1,6 +1,7 @@
 -- "Answer byte", and what one operation comes to, on whatever state.
-use Rattle.std.specs.Prelude.{◌≡◌, Bool, cond, List, ℕ, ◌+◌, ◌*◌, ◌/◌, eqb}
-use Rattle.answers.specs.declared.Answer.{Answer}
+use Rattle.std.specs.Prelude.{◌≡◌, Bool, cond, List, ℕ, ◌+◌, ◌*◌, ◌/◌, eqb, Result, Ok, Err}
+use Rattle.answers.specs.declared.Refusal.{Refusal}
+use Rattle.answers.specs.Numbers.{number}
 
 -- kind (2 bits: 0 done, 1 granted, 2 forbidden), frames looked at (6 bits)
 abbrev pub kind_of : Bool → ℕ
@@ -12,6 +13,15 @@ verdict_byte v looked = kind_of v * 64 + looked
 -- an answer byte's kind alone
 abbrev pub kind_only : ℕ → ℕ
 kind_only b = b / 64 * 64
+
+-- what an engine answers: the number for no (0: accepted), and the answer byte, 0 where it refuses
+pub record Answer : Type 0 where
+  pub number : ℕ
+  pub byte : ℕ
+
+abbrev pub answer_of : Result ℕ Refusal → Answer
+answer_of (Ok b) = record { number = 0; byte = b }
+answer_of (Err r) = record { number = number r; byte = 0 }
 
 -- what an operation comes to: the number for no (0: accepted), the answer byte, and the state after it
 pub record Moved (S : Type 0) : Type 0 where

@@ -1,5 +1,7 @@
 -- "Numbers for no": each by its name, and their order. 0 is accepted.
-use Rattle.std.specs.Prelude.{Bool, cond, ℕ, eqb}
+use Rattle.std.specs.Prelude.{Bool, cond, ℕ, eqb, Result, Ok, Err}
+use Rattle.answers.specs.declared.Refusal.{Refusal}
+use Rattle.answers.specs.declared.Refusal.TheVariants as refusals
 
 -- bytes too few: a policy short of its header or rows, or a trace of odd length
 abbrev pub too_few : ℕ
@@ -56,6 +58,28 @@ bad_policy = 13
 -- state value that the policy does not allow
 abbrev pub bad_state : ℕ
 bad_state = 14
+
+-- the number of a refusal
+abbrev pub number : Refusal → ℕ
+number refusals.TooFew = too_few
+number refusals.LeftOver = left_over
+number refusals.BitSet = bit_set
+number refusals.Unknown = unknown
+number refusals.NoSigner = no_signer
+number refusals.NoTarget = no_target
+number refusals.NoFrame = no_frame
+number refusals.TooDeep = too_deep
+number refusals.NoRoom = no_room
+number refusals.NotAllowed = not_allowed
+number refusals.NotEmpty = not_empty
+number refusals.Forbidden = forbidden
+number refusals.BadPolicy = bad_policy
+number refusals.BadState = bad_state
+
+-- and of whatever may be refused: 0 where it is not
+abbrev pub number_of : {A : Type 0} → Result A Refusal → ℕ
+number_of (Ok x) = 0
+number_of (Err r) = number r
 
 -- the number of a test that should hold: 0 where it does
 abbrev pub unless : Bool → ℕ → ℕ

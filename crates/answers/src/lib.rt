@@ -1,83 +1,71 @@
 // Refusals by name, the answer to one operation, the report of a run. What they mean stands in specs/.
 #![tactic(auto)]
 
-ghost use Rattle.std.specs.Prelude.{◌≡◌, ◌%◌};
-ghost use Rattle.answers.specs.Numbers.{unless};
+ghost use Rattle.std.specs.Prelude.{◌≡◌, ◌%◌, Ok};
+ghost use Rattle.answers.specs.Numbers.{number, number_of, unless};
 ghost use Rattle.answers.specs.Answer.{verdict_byte};
 
-// Numbers for no.
-pub const ACCEPTED: u8 = 0;
-
-pub const TOO_FEW: u8 = 1;
-
-pub const LEFT_OVER: u8 = 2;
-
-pub const BIT_SET: u8 = 3;
-
-pub const UNKNOWN: u8 = 4;
-
-pub const NO_SIGNER: u8 = 5;
-
-pub const NO_TARGET: u8 = 6;
-
-pub const NO_FRAME: u8 = 7;
-
-pub const TOO_DEEP: u8 = 8;
-
-pub const NO_ROOM: u8 = 9;
-
-pub const NOT_ALLOWED: u8 = 10;
-
-pub const NOT_EMPTY: u8 = 11;
-
-pub const FORBIDDEN: u8 = 12;
-
-pub const BAD_POLICY: u8 = 13;
-
-pub const BAD_STATE: u8 = 14;
-
-// What an engine answers to one operation: 0 and the answer byte, or the number for no and 0.
-#[derive(Clone, Copy)]
-pub struct Answer {
-    pub number: u8,
-    pub byte: u8,
+// Why something is refused: document 01's numbers for no, in their order.
+#[derive(Clone, Copy, Debug, PartialEq, Eq)]
+pub enum Refusal {
+    TooFew = 1,
+    LeftOver,
+    BitSet,
+    Unknown,
+    NoSigner,
+    NoTarget,
+    NoFrame,
+    TooDeep,
+    NoRoom,
+    NotAllowed,
+    NotEmpty,
+    Forbidden,
+    BadPolicy,
+    BadState,
 }
 
-// What a run, a writer or a checker reports.
-#[derive(Clone, Copy)]
-pub struct Report {
-    pub number: u8,
-    pub figure: u64,
+impl Refusal {
+    // The number by which a host of C knows it.
+    pub fn number(self) -> u8
+        ensures { result ≡ number self }
+    {
+        self as u8
+    }
 }
 
-impl Answer {
-    // Refused by a number.
-    pub fn refused(number: u8) -> Self
-        ensures { result ≡ record { number = number; byte = 0 } }
-    {
-        Answer { number, byte: 0 }
-    }
+// What an engine answers to one operation: its answer byte, or why it is refused.
+pub type Answer = Result<u8, Refusal>;
 
-    // Accepted, with the answer byte of an operation that is not a check.
-    pub fn done() -> Self
-        ensures { result ≡ record { number = 0; byte = 0 } }
-    {
-        Answer {
-            number: ACCEPTED,
-            byte: 0,
-        }
-    }
+// Where a run, a writer or a checker was stopped, and why: at a word or step of an index, or, before the first, at 0.
+#[derive(Clone, Copy, Debug, PartialEq, Eq)]
+pub struct Stop {
+    pub why: Refusal,
+    pub at: u64,
+}
 
-    // Accepted, with the answer byte of a check.
-    pub fn verdict(granted: bool, looked: u64) -> Self
-        ensures { result ≡ record { number = 0; byte = verdict_byte granted (looked % 64) } }
-    {
-        let byte = verdict_byte(granted, looked);
-        Answer {
-            number: ACCEPTED,
-            byte,
-        }
+// What a run, a writer or a checker reports: its figure, or the stop.
+pub type Report = Result<u64, Stop>;
+
+impl From<Refusal> for Stop {
+    ghost from_gives = { λ why stop. stop ≡ record { why = why; at = 0 } };
+
+    fn from(why: Refusal) -> Stop {
+        Stop { why, at: 0 }
     }
+}
+
+// Accepted, with the answer byte of an operation that is not a check.
+pub fn done() -> Answer
+    ensures { result ≡ Ok 0 }
+{
+    Ok(0)
+}
+
+// Accepted, with the answer byte of a check.
+pub fn verdict(granted: bool, looked: u64) -> Answer
+    ensures { result ≡ Ok (verdict_byte granted (looked % 64)) }
+{
+    Ok(verdict_byte(granted, looked))
 }
 
 // The answer byte of a check: its kind, and the frames looked at in six bits.
@@ -88,9 +76,9 @@ pub fn verdict_byte(granted: bool, looked: u64) -> u8
     if granted { 64 + count } else { 128 + count }
 }
 
-// The number that refuses where a test fails.
-pub fn unless(holds: bool, number: u8) -> u8
-    ensures { result ≡ unless holds number }
+// Refused where a test fails.
+pub fn unless(holds: bool, why: Refusal) -> Result<(), Refusal>
+    ensures { number_of result ≡ unless holds (number why) }
 {
-    if holds { ACCEPTED } else { number }
+    if holds { Ok(()) } else { Err(why) }
 }

@@ -7,20 +7,17 @@ use Prim.Native.Nat.{ℕ}
 use lib.Dec.{eqb}
 use lib.ListN.{length, replicate}
 use borrow.Author.Tests.{eq-eqb, ne_eqb, eqb-true}
-use Rattle.answers.specs.declared.Answer.{Answer}
-use Rattle.answers.specs.Answer.{Moved, refused, done, Gives}
+use Rattle.answers.specs.Answer.{Answer, Moved, refused, done, Gives}
 use Rattle.answers.proofs.Alike.{Alike, guarded_alike}
 use Rattle.words.specs.declared.Operation.{Operation}
 use Rattle.words.specs.declared.Operation.TheVariants.{Call, Return, Enable, Disable, Revert, Check}
 use Rattle.words.specs.declared.Word.{Word as Held}
-use Rattle.words.specs.declared.Decoded.{Decoded}
-use Rattle.words.specs.declared.Decoded.TheVariants.{Word, Refused}
-use Rattle.words.specs.Words.{framed, barred}
+use Rattle.words.specs.Words.{Decoded, Word, Refused, framed, barred}
 use Rattle.words.proofs.Words.{decoded_fair, some_frame}
 use Rattle.beliefs.specs.Policy.{Policy, signers, targets, valid, refusal_in, outside_of, reading}
 use Rattle.beliefs.specs.Stack.{Frame, Stack}
 use Rattle.beliefs.specs.Trace.{does, step}
-use Rattle.beliefs.specs.Engine.{Engine, acts, Serves, Serve, worded, Answers, Operate}
+use Rattle.beliefs.specs.Engine.{Engine, acts, Serves, Serve, worded, Works, Operate}
 use Rattle.beliefs.proofs.Policy.{let_in_with, not_refused_with}
 
 -- an operation of the policy is refused by 7 or 8, and then changes nothing; or it does what it does
@@ -99,49 +96,47 @@ module _ (e : Engine) (p : Policy) where
           record { number = g.number ∙ m.number; byte = g.byte ∙ m.byte; pictures = rw g.state m.states };
     }
 
-    -- each way out of an engine's `operate`: 13 or 14
-    module _ (w lent : ℕ) where
-      pub bad_state_lem : (n : ℕ) → n ≡ refusal_in p (e.fits p s) → n ≢ 0 → Operate e p s w lent n lent s
+    -- each way out of `operate`: 13 or 14
+    module _ (w : ℕ) where
+      pub bad_state_lem : (n : ℕ) → n ≡ refusal_in p (e.fits p s) → n ≢ 0 → Works e p s w (record { number = n; byte = 0 }) s
       unfolding worded
       bad_state_lem n q nz = record {
-        exact = rw (← q, ne_eqb n 0 nz) (record { number = refl; answer = rw (ne_eqb n 0 nz); state = refl });
+        exact = rw (← q, ne_eqb n 0 nz) (record { number = refl; byte = refl; state = refl });
         answers = λ v f. absurd (nz (q ∙ not_refused_with p (e.fits p s) v f));
       }
 
-      module _ (ok : refusal_in p (e.fits p s) ≡ 0) (d : Decoded) (read : d ≡ reading p w 0) where
+      module _ (ok : refusal_in p (e.fits p s) ≡ 0) where
         -- 4, 3, 5 or 6
-        pub bad_word : (n : ℕ) → d ≡ Refused n → Operate e p s w lent n lent s
+        pub bad_word : (n : ℕ) → reading p w 0 ≡ Refused n → Works e p s w (record { number = n; byte = 0 }) s
         unfolding worded
-        bad_word n q =
-            let told : reading p w 0 ≡ Refused n = sym read ∙ q in
-            let nz : n ≢ 0 = rw told at (decoded_fair (signers p) (targets p) w 0) in
-            record {
-              exact = rw (eq-eqb _ _ ok, told) (record { number = refl; answer = rw (ne_eqb n 0 nz); state = refl });
-              answers = λ _ _ st h. rw told (record { number = refl; answer = rw (ne_eqb n 0 nz); pictures = h });
-            }
+        bad_word n told = record {
+          exact = rw (eq-eqb _ _ ok, told) (record { number = refl; byte = refl; state = refl });
+          answers = λ _ _ st h. rw told (record { number = refl; byte = refl; pictures = h });
+        }
 
         -- 7, 8, or the answer
-        pub done_word : (x : Held) → d ≡ Word x → (r : Answer) (left : List ℕ) → Serve e p s x.op r left
-            → (byte : ℕ) → byte ≡ cond (eqb r.number 0) r.byte lent → Operate e p s w lent r.number byte left
+        pub done_word : (x : Held) → reading p w 0 ≡ Word x → (r : Answer) (left : List ℕ) → Serve e p s x.op r left → Works e p s w r left
         unfolding worded
-        done_word x q r left h byte b =
-            let told : reading p w 0 ≡ Word x = sym read ∙ q in
+        done_word x told r left h =
             let i : outside_of p x.op ≡ 0 = rw told at (decoded_fair (signers p) (targets p) w 0) in
             let v : valid p ≡ true = (let_in_with p (e.fits p s) ok).0 in
             record {
-              exact = rw (eq-eqb _ _ ok, told) (record {
-                number = h.gives.number;
-                answer = b ∙ written h.gives.number h.gives.byte;
-                state = h.gives.state;
-              });
-              answers = λ _ _ st k. rw told (answered (h.serves v i st k));
+              exact = rw (eq-eqb _ _ ok, told) h.gives;
+              answers = λ _ _ st k. rw told (h.serves v i st k);
             }
-          where
-            written : {m n y z : ℕ} → m ≡ n → y ≡ z → cond (eqb m 0) y lent ≡ cond (eqb n 0) z lent
-            written a c = cc
 
-            answered : {m : Moved Stack} → Serves e p r left m → Answers e p lent r.number byte left m
-            answered k = record { number = k.number; answer = b ∙ written k.number k.byte; pictures = k.pictures }
+      -- and where the number is returned
+      pub operated : (lent : ℕ) (r : Answer) (left : List ℕ) → Works e p s w r left
+          → (byte : ℕ) → byte ≡ cond (eqb r.number 0) r.byte lent → Operate e p s w lent r.number byte left
+      operated lent r left h byte b = record {
+        exact = record { number = h.exact.number; answer = b ∙ written h.exact.number h.exact.byte; state = h.exact.state };
+        answers = λ v f st k.
+            let a = h.answers v f st k in
+            record { number = a.number; answer = b ∙ written a.number a.byte; pictures = a.pictures };
+      }
+        where
+          written : {m n y z : ℕ} → m ≡ n → y ≡ z → cond (eqb m 0) y lent ≡ cond (eqb n 0) z lent
+          written a c = cc
 
   -- an operation on a state that number 14 lets through leaves one that it lets through, of an engine whose states picture some stack exactly then
   pub operate_stays : ((s : List ℕ) (st : Stack) → e.Pictures p s st → e.fits p s ≡ true)

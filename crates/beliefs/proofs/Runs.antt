@@ -14,9 +14,7 @@ use Rattle.answers.specs.Account.{Account, told, before, barring}
 use Rattle.answers.proofs.Alike.{Alike, refused_alike}
 use Rattle.words.specs.declared.Operation.{Operation}
 use Rattle.words.specs.declared.Word.{Word as Held}
-use Rattle.words.specs.declared.Decoded.{Decoded}
-use Rattle.words.specs.declared.Decoded.TheVariants.{Word, Refused}
-use Rattle.words.specs.Words.{word_of, word_at}
+use Rattle.words.specs.Words.{Decoded, Word, Refused, word_of, word_at}
 use Rattle.words.proofs.Words.{Fair, decoded_fair}
 use Rattle.beliefs.specs.Policy.{Policy, signers, targets, reading}
 use Rattle.beliefs.specs.Trace.{served, run_from}

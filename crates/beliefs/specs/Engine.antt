@@ -1,8 +1,7 @@
 -- What an engine is, and what every engine promises of one operation: exactly, on its own state; and against the belief sets, over what its
 -- state pictures.
 use Rattle.std.specs.Prelude.{◌≡◌, Bool, true, cond, not, ◌&&◌, List, [], ℕ, eqb, replicate}
-use Rattle.answers.specs.declared.Answer.{Answer}
-use Rattle.answers.specs.Answer.{Moved, guarded, Gives, Operated}
+use Rattle.answers.specs.Answer.{Answer, Moved, guarded, Gives, Operated}
 use Rattle.words.specs.declared.Operation.{Operation}
 use Rattle.words.specs.Words.{framed, barred}
 use Rattle.beliefs.specs.Lists.{all, empty}
@@ -52,7 +51,13 @@ pub record Serve (e : Engine) (p : Policy) (s : List ℕ) (op : Operation) (r : 
 unfoldable pub worded : Engine → Policy → ℕ → List ℕ → Moved (List ℕ)
 worded e p w s = guarded (refusal_in p (e.fits p s)) (served (acts e p) (reading p w 0) s) s
 
--- the answer byte is written where the operation is accepted, and left alone otherwise
+-- exactly, and against the belief sets
+pub record Works (e : Engine) (p : Policy) (s : List ℕ) (w : ℕ) (r : Answer) (left : List ℕ) : Type 0 where
+  pub exact : Gives r left (worded e p w s)
+  pub answers : valid p ≡ true → e.fits p s ≡ true → (st : Stack) → e.Pictures p s st
+      → Serves e p r left (served (step e.counts p) (reading p w 0) st)
+
+-- and where the number is returned: the answer byte is written where the operation is accepted, and left alone otherwise
 pub record Answers (e : Engine) (p : Policy) (lent n byte : ℕ) (left : List ℕ) (m : Moved Stack) : Type 0 where
   pub number : n ≡ m.number
   pub answer : byte ≡ cond (eqb m.number 0) m.byte lent

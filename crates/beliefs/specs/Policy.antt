@@ -5,8 +5,7 @@ use Rattle.bits.specs.Bit.{bit, below}
 use Rattle.answers.specs.Numbers.{too_few, left_over, bit_set, bad_policy, bad_state, unless, first}
 use Rattle.answers.specs.Account.{Account, short_of, barring}
 use Rattle.words.specs.declared.Operation.{Operation}
-use Rattle.words.specs.declared.Decoded.{Decoded}
-use Rattle.words.specs.Words.{outside, barred, decoded}
+use Rattle.words.specs.Words.{Decoded, outside, barred, decoded}
 use Rattle.beliefs.specs.Lists.{all, each}
 
 abbrev pub Policy : Type 0

@@ -5,9 +5,7 @@ use Rattle.answers.specs.Answer.{Moved, refused, done, verdict, guarded}
 use Rattle.answers.specs.Account.{Account, told, before, short_of, barring}
 use Rattle.words.specs.declared.Operation.{Operation}
 use Rattle.words.specs.declared.Operation.TheVariants.{Call, Return, Enable, Disable, Revert, Check}
-use Rattle.words.specs.declared.Decoded.{Decoded}
-use Rattle.words.specs.declared.Decoded.TheVariants.{Word, Refused}
-use Rattle.words.specs.Words.{barred, word_of}
+use Rattle.words.specs.Words.{Decoded, Word, Refused, barred, word_of}
 use Rattle.beliefs.specs.Policy.{Policy, refusal, reading}
 use Rattle.beliefs.specs.Stack.{Frame, Stack, called, enable, disable, revert, granted, marked, walk}
 

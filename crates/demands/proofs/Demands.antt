@@ -13,8 +13,7 @@ use borrow.Author.Tests.{eq-eqb, ne_eqb}
 use Rattle.answers.specs.Answer.{kind_of, verdict_byte}
 use Rattle.words.specs.declared.Operation.{Operation}
 use Rattle.words.specs.declared.Operation.TheVariants.{Check}
-use Rattle.words.specs.declared.Decoded.{Decoded}
-use Rattle.words.specs.declared.Decoded.TheVariants.{Word}
+use Rattle.words.specs.Words.{Decoded, Word}
 use Rattle.words.proofs.Words.{decoded_fair}
 use Rattle.beliefs.specs.Policy.{Policy, Target, signers, targets, valid, outside_of, reading, read_number}
 use Rattle.beliefs.specs.Stack.{Frame, Stack, marked, granted, walk}

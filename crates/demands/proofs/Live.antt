@@ -12,8 +12,7 @@ use borrow.Author.Tests.{lt-ltb, eqb-true, ne_eqb}
 use Rattle.answers.specs.Numbers.{bad_policy, bad_state}
 use Rattle.answers.specs.Answer.{Moved, verdict_byte}
 use Rattle.words.specs.declared.Operation.TheVariants.{Check}
-use Rattle.words.specs.declared.Decoded.{Decoded}
-use Rattle.words.specs.declared.Decoded.TheVariants.{Word, Refused}
+use Rattle.words.specs.Words.{Decoded, Word, Refused}
 use Rattle.words.specs.Words.{word_operation, word_signer, word_target, word_spare, operation_of, stray_in, outside, barred, decoded, number_of}
 use Rattle.words.proofs.Words.{Fair, decoded_fair, decoded_most, barred_most}
 use Rattle.beliefs.specs.Policy.{Policy, Target, signers, targets, valid, refusal_in, reading}

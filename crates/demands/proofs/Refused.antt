@@ -9,15 +9,12 @@ use lib.Dec.{eqb}
 use lib.ListN.{length}
 use lib.Seq.{sets}
 use borrow.Author.Tests.{ne_eqb}
-use Rattle.answers.specs.declared.Report.{Report}
+use Rattle.answers.specs.Account.{Report, Account, told, short_of, barring, Reports}
 use Rattle.answers.specs.Numbers.{forbidden, unless, first}
 use Rattle.answers.specs.Answer.{Moved, refused, guarded}
-use Rattle.answers.specs.Account.{Account, told, short_of, barring, Reports}
 use Rattle.words.specs.declared.Operation.{Operation}
 use Rattle.words.specs.declared.Operation.TheVariants.{Call, Return, Enable, Disable, Revert, Check}
-use Rattle.words.specs.declared.Decoded.{Decoded}
-use Rattle.words.specs.declared.Decoded.TheVariants.{Word, Refused}
-use Rattle.words.specs.Words.{barred}
+use Rattle.words.specs.Words.{Decoded, Word, Refused, barred}
 use Rattle.beliefs.specs.declared.Seen.{Seen}
 use Rattle.beliefs.specs.Policy.{Policy, Target, signers, targets, refusal, refusal_in, reading, size, writing}
 use Rattle.beliefs.specs.Stack.{walk}

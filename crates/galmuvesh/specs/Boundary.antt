@@ -1,6 +1,6 @@
 -- What the C functions promise where the crates below say it in other terms: a report comes in two places, a passed state is four words.
 use Rattle.std.specs.Prelude.{◌≡◌, Bool, true, false, cond, List, [], ◌∷◌, ℕ, eqb, get_or}
-use Rattle.answers.specs.declared.Report.{Report}
+use Rattle.answers.specs.Account.{Report}
 use Rattle.answers.specs.Answer.{Moved, verdict_byte}
 use Rattle.words.specs.declared.Operation.{Operation}
 use Rattle.words.specs.declared.Operation.TheVariants.{Call, Return, Enable, Disable, Revert, Check}

@@ -5,14 +5,12 @@ use Prim.Native.Nat.{ℕ, ◌-◌, ◌/◌, ◌%◌, ◌≤◌}
 use native.Mathlib.Omega.{arith}
 use lib.Dec.{eqb, ltb}
 use lib.ListN.{length, get_or, length-append}
-use Rattle.answers.specs.declared.Report.{Report}
+use Rattle.answers.specs.Account.{Report}
 use Rattle.beliefs.specs.Policy.{Policy, signers, targets, reading}
 use Rattle.beliefs.specs.Stack.{full}
 use Rattle.words.specs.declared.Operation.{Operation}
 use Rattle.words.specs.declared.Operation.TheVariants.{Call, Return, Enable, Disable, Revert, Check}
-use Rattle.words.specs.declared.Decoded.{Decoded}
-use Rattle.words.specs.declared.Decoded.TheVariants.{Word, Refused}
-use Rattle.words.specs.Words.{word_at}
+use Rattle.words.specs.Words.{Decoded, Word, Refused, word_at}
 use Rattle.lines.specs.Text.{start, verdict, policy_line, check_line, end_line, refused_line, last_line, op_line, decoded_line, word_line}
 use Rattle.lines.specs.Page.{words_run, line_at}
 use Rattle.lines.proofs.Digits.{decimal_short}

@@ -9,8 +9,7 @@ use native.Mathlib.Omega.{arith}
 use lib.ListN.{length, get_or, take, drop}
 use lib.Seq.{sets, get_or-take}
 use borrow.Author.Tests.{lt-ltb, le-ltb, eq-eqb, ne_eqb}
-use Rattle.answers.specs.declared.Report.{Report}
-use Rattle.answers.specs.Account.{Account, Reports}
+use Rattle.answers.specs.Account.{Report, Account, Reports}
 use Rattle.beliefs.specs.Policy.{read_number, value_read}
 use Rattle.beliefs.specs.Trace.{run_refusal, run}
 use Rattle.beliefs.proofs.Lists.{front}

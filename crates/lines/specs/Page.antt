@@ -1,6 +1,6 @@
 -- A text is written in pages: as many whole lines as fit into a lent buffer.
 use Rattle.std.specs.Prelude.{cond, List, [], ◌++◌, ℕ, zero, suc, ◌+◌, ◌-◌, ◌/◌, eqb, ltb, length}
-use Rattle.answers.specs.declared.Report.{Report}
+use Rattle.answers.specs.Account.{Report}
 use Rattle.beliefs.specs.Policy.{Policy}
 use Rattle.policy.specs.Read.{least}
 use Rattle.lines.specs.Text.{policy_line, word_line, last_line}

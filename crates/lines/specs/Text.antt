@@ -4,9 +4,7 @@ use Rattle.answers.specs.Account.{Account}
 use Rattle.answers.specs.Numbers.{left_over}
 use Rattle.words.specs.declared.Operation.{Operation}
 use Rattle.words.specs.declared.Operation.TheVariants.{Call, Return, Enable, Disable, Revert, Check}
-use Rattle.words.specs.declared.Decoded.{Decoded}
-use Rattle.words.specs.declared.Decoded.TheVariants.{Word, Refused}
-use Rattle.words.specs.Words.{word_at}
+use Rattle.words.specs.Words.{Decoded, Word, Refused, word_at}
 use Rattle.beliefs.specs.Policy.{Policy, signers, targets, reading, read_number, value_read}
 use Rattle.beliefs.specs.Stack.{full}
 use Rattle.beliefs.specs.Trace.{run}

@@ -12,9 +12,8 @@ use lib.Pow.{pow_mono}
 use lib.Seq.{take_at, drop_at, drop-cons, get_or-drop, sets}
 use borrow.Author.Tests.{ltb-true, ltb-false, lt-ltb, le-ltb}
 use Rattle.bits.specs.Bit.{below}
-use Rattle.answers.specs.declared.Report.{Report}
+use Rattle.answers.specs.Account.{Report, Reports, short_of}
 use Rattle.answers.specs.Numbers.{first}
-use Rattle.answers.specs.Account.{Reports, short_of}
 use Rattle.answers.proofs.Numbers.{spared, neither}
 use Rattle.answers.proofs.Given.{passed}
 use Rattle.beliefs.specs.Policy.{start, signers, targets, row, row_fits, valid, refusal, width, size, mirrored, row_of, row_bytes, rows_of, rows_bytes}

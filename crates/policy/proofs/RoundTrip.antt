@@ -7,8 +7,7 @@ use native.Mathlib.Omega.{arith}
 use lib.ListN.{length, take}
 use lib.Seq.{ext_get_or}
 use borrow.Author.Tests.{le-ltb, eq-eqb}
-use Rattle.answers.specs.declared.Report.{Report}
-use Rattle.answers.specs.Account.{Reports}
+use Rattle.answers.specs.Account.{Report, Reports}
 use Rattle.beliefs.specs.Policy.{signers, targets, size, valid, read_number, value_read, bytes_written, writing}
 use Rattle.policy.specs.Read.{PolicyRead, Bytes}
 use Rattle.beliefs.proofs.Lists.{front}

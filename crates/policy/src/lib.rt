@@ -5,14 +5,17 @@ ghost use Rattle.std.specs.Prelude.{◌≡◌, true, ◌+◌, ◌-◌, ◌*◌, 
 ghost use Rattle.std.proofs.lemmas.List.Edits.{sets};
 ghost use Rattle.bits.specs.Bit.{below};
 ghost use Rattle.beliefs.specs.Lists.{all, each};
-ghost use Rattle.answers.specs.Account.{Reports};
+ghost use Rattle.answers.specs.Numbers.{number_of};
+ghost use Rattle.answers.specs.Account.{Reports, report_of};
+ghost use Rattle.words.specs.Words.{decoding};
 ghost use Rattle.beliefs.specs.Policy.{signers, targets, row, within, row_fits, valid, refusal, refusal_in, refusal_of, reading};
 ghost use Rattle.beliefs.specs.Policy.{width, size, mirrored, row_of, row_bytes, rows_of, rows_bytes, header, head_signers, head_targets, headed};
 ghost use Rattle.beliefs.specs.Policy.{read_number, value_read, bytes_written, writing};
 ghost use Rattle.beliefs.specs.Stack.{full, start_marks};
 ghost use Rattle.policy.specs.Read.{PolicyRead, Together, cut_at};
 
-use words::{Decoded, Operation};
+use answers::{Refusal, Report};
+use words::{Operation, Word};
 
 // A policy's words: start, S, N, and the rows of 32 signers.
 pub const WORDS: usize = 35;
@@ -112,41 +115,32 @@ fn valid(policy: &Policy) -> bool
 }
 
 // The front door: what refuses a policy, 13.
-pub fn refusal(policy: &Policy) -> u8
-    ensures { result ≡ refusal policy.now }
+pub fn refusal(policy: &Policy) -> Result<(), Refusal>
+    ensures { number_of result ≡ refusal policy.now }
 {
-    answers::unless(valid(policy), answers::BAD_POLICY)
+    answers::unless(valid(policy), Refusal::BadPolicy)
 }
 
 // What refuses a state under it, which number 14 lets through or not: 13, 14.
-fn refusal_in(policy: &Policy, fits: bool) -> u8
-    ensures { result ≡ refusal_in policy.now fits }
+pub fn refusal_in(policy: &Policy, fits: bool) -> Result<(), Refusal>
+    ensures { number_of result ≡ refusal_in policy.now fits }
 {
-    let number = refusal(policy);
-    if number != answers::ACCEPTED {
-        return number;
-    }
-    answers::unless(fits, answers::BAD_STATE)
+    refusal(policy)?;
+    answers::unless(fits, Refusal::BadState)
 }
 
 // What refuses an operation of any signer or target in a state of so many frames: 13, 14, 5 or 6, 7, 8.
-pub fn refusal_of(policy: &Policy, fits: bool, depth: u64, op: Operation) -> u8
-    ensures { result ≡ refusal_of policy.now fits depth op }
+pub fn refusal_of(policy: &Policy, fits: bool, depth: u64, op: Operation) -> Result<(), Refusal>
+    ensures { number_of result ≡ refusal_of policy.now fits depth op }
 {
-    let number = refusal_in(policy, fits);
-    if number != answers::ACCEPTED {
-        return number;
-    }
-    let outside = words::outside(signers(policy), targets(policy), op);
-    if outside != answers::ACCEPTED {
-        return outside;
-    }
+    refusal_in(policy, fits)?;
+    words::outside(signers(policy), targets(policy), op)?;
     words::barred(depth, op)
 }
 
 // A word under the policy: 4, 3, 5 or 6, else its operation with its index.
-pub fn decode(policy: &Policy, word: u16, index: usize) -> Decoded
-    ensures { result ≡ reading policy.now word index }
+pub fn decode(policy: &Policy, word: u16, index: usize) -> Result<Word, Refusal>
+    ensures { decoding result ≡ reading policy.now word index }
 {
     words::decode(signers(policy), targets(policy), word, index)
 }
@@ -244,30 +238,30 @@ fn head_targets(h: u64) -> u64
     h / 16 % 64 + 1
 }
 
-// The number that refuses the bytes: header length, header spare, too short, left over, padding.
-fn read_number(bytes: &[u8]) -> u8
-    ensures { result ≡ read_number bytes.now }
+// What refuses the bytes: header length, header spare, too short, left over, padding.
+fn refusal_read(bytes: &[u8]) -> Result<(), Refusal>
+    ensures { number_of result ≡ read_number bytes.now }
 {
     if bytes.len() < 2 {
-        return answers::TOO_FEW;
+        return Err(Refusal::TooFew);
     }
     let h = header(bytes);
     if h % 16 != 0 {
-        return answers::BIT_SET;
+        return Err(Refusal::BitSet);
     }
     let rows = head_signers(h);
     let n = head_targets(h);
     let wanted = size(rows, n) as usize;
     if bytes.len() < wanted {
-        return answers::TOO_FEW;
+        return Err(Refusal::TooFew);
     }
     if wanted < bytes.len() {
-        return answers::LEFT_OVER;
+        return Err(Refusal::LeftOver);
     }
     if !padding_clear(bytes, rows, width(n), n) {
-        return answers::BIT_SET;
+        return Err(Refusal::BitSet);
     }
-    answers::ACCEPTED
+    Ok(())
 }
 
 // How many bytes at the front of a recording are its policy's, by the header: the trace begins there. All of them where the
@@ -309,15 +303,12 @@ fn store(bytes: &[u8], policy: &mut Policy)
 }
 
 // A policy from its bytes. Where they are refused the value is left as it was lent.
-pub fn read(bytes: &[u8], policy: &mut Policy) -> u8
-    ensures { PolicyRead bytes.now policy.old result policy.new }
+pub fn read(bytes: &[u8], policy: &mut Policy) -> Result<(), Refusal>
+    ensures { PolicyRead bytes.now policy.old (number_of result) policy.new }
 {
-    let number = read_number(bytes);
-    if number != answers::ACCEPTED {
-        return number;
-    }
+    refusal_read(bytes)?;
     store(bytes, policy);
-    answers::ACCEPTED
+    Ok(())
 }
 
 // The header of a valid policy as one number.
@@ -369,24 +360,14 @@ fn put(policy: &Policy, bytes: &mut [u8])
     put_rows(policy, wide, bytes);
 }
 
-// The policy's one byte form into a lent buffer: 13, 9. No byte past it is touched, and none where the number is not 0.
-pub fn write(policy: &Policy, bytes: &mut [u8]) -> answers::Report
-    ensures { Reports result bytes.old bytes.new (writing policy.now (length bytes.old)) }
+// The policy's one byte form into a lent buffer: 13, 9; else how many bytes it has. No byte past it is touched, and none where it is
+// refused.
+pub fn write(policy: &Policy, bytes: &mut [u8]) -> Report
+    ensures { Reports (report_of result) bytes.old bytes.new (writing policy.now (length bytes.old)) }
 {
-    let number = refusal(policy);
-    if number != answers::ACCEPTED {
-        return answers::Report { number, figure: 0 };
-    }
+    refusal(policy)?;
     let wanted = size(signers(policy), targets(policy));
-    if bytes.len() < wanted as usize {
-        return answers::Report {
-            number: answers::NO_ROOM,
-            figure: 0,
-        };
-    }
+    answers::unless(wanted as usize <= bytes.len(), Refusal::NoRoom)?;
     put(policy, bytes);
-    answers::Report {
-        number: answers::ACCEPTED,
-        figure: wanted,
-    }
+    Ok(wanted)
 }

@@ -14,8 +14,7 @@ use lib.Seq.{get_or-set_other}
 use borrow.Author.Tests.{lt-ltb, le-ltb, ltb-false, eq-eqb, ne_eqb, eqb-true}
 use Rattle.bits.specs.Bit.{bit, with_bit, without_bit}
 use Rattle.bits.proofs.Laws.{bit_with, bit_without, bit_none, high_bits}
-use Rattle.answers.specs.declared.Answer.{Answer}
-use Rattle.answers.specs.Answer.{Gives}
+use Rattle.answers.specs.Answer.{Answer, Gives}
 use Rattle.words.specs.declared.Operation.{Operation}
 use Rattle.words.specs.declared.Operation.TheVariants.{Call, Return, Enable, Disable, Revert, Check}
 use Rattle.words.specs.Words.{outside, barred}
@@ -32,8 +31,7 @@ use Rattle.beliefs.proofs.Engine.{newest, Mirrors, done_mirrors, acts_mirror, se
 use Rattle.record.specs.Layout.{frame_from, words_from, depth, held_at, held}
 use Rattle.record.specs.Does.{start_targets, start_word, longer, handed, called_in, left_in, held_in, does}
 use Rattle.record.specs.Pictures.{AllFounded, with_length, FramesPictured, Pictures, by_record}
-use Rattle.record.proofs.Frames.{held_same, held_set, lowered_depth, lowered_below, lowered_above}
-use Rattle.record.proofs.Frames.{raised_depth, raised_signer, raised_other, raised_held}
+use Rattle.record.proofs.Frames.{held_same, held_set, lowered_depth, lowered_below, lowered_above, raised_depth, raised_signer, raised_other, raised_held}
 use Rattle.record.proofs.Chains.{none_longer, none_outside, at_length, granted_in_lem}
 
 -- words that stay picture the frames that they pictured

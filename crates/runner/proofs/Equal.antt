@@ -4,8 +4,7 @@ use mathlib.Core.Bool.{true, false}
 use mathlib.Core.List.{List}
 use Prim.Native.Nat.{ℕ}
 use lib.ListN.{length}
-use Rattle.answers.specs.declared.Report.{Report}
-use Rattle.answers.specs.Account.{Reports}
+use Rattle.answers.specs.Account.{Report, Reports}
 use Rattle.beliefs.specs.Trace.{run}
 use Rattle.answers.specs.Answer.{kind_only}
 use Rattle.beliefs.specs.Policy.{Policy}

@@ -5,11 +5,9 @@ use mathlib.Core.Bool.{true}
 use mathlib.Core.List.{List, []}
 use Prim.Native.Nat.{ℕ, ◌+◌, ◌*◌, ◌≤◌, ◌<◌}
 use lib.ListN.{length, set, replicate}
-use Rattle.answers.specs.declared.Answer.{Answer}
+use Rattle.answers.specs.Answer.{Answer}
 use Rattle.words.specs.declared.Word.{Word as Held}
-use Rattle.words.specs.declared.Decoded.{Decoded}
-use Rattle.words.specs.declared.Decoded.TheVariants.{Word, Refused}
-use Rattle.words.specs.Words.{number_of, word_at}
+use Rattle.words.specs.Words.{Decoded, Word, Refused, number_of, word_at}
 use Rattle.words.proofs.Words.{Fair, decoded_fair, decoded_index}
 use Rattle.beliefs.specs.Policy.{Policy, signers, targets, valid}
 use Rattle.beliefs.specs.Stack.{Stack}

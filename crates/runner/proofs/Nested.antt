@@ -8,11 +8,9 @@ use native.Mathlib.Omega.{arith}
 use lib.ListN.{length, set}
 use Rattle.bits.proofs.Laws.{never}
 use Rattle.words.specs.declared.Word.{Word as Held}
-use Rattle.words.specs.declared.Decoded.{Decoded}
-use Rattle.words.specs.declared.Decoded.TheVariants.{Word, Refused as Bad}
+use Rattle.words.specs.Words.{Decoded, Word, Refused as Bad, number_of}
 use Rattle.beliefs.specs.Policy.{Policy}
 use Rattle.beliefs.specs.Stack.{Stack}
-use Rattle.words.specs.Words.{number_of}
 use Rattle.answers.specs.Answer.{Moved}
 use Rattle.beliefs.specs.Trace.{below, step}
 use Rattle.passed.specs.declared.Passed.{Passed}

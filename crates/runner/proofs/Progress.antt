@@ -16,8 +16,7 @@ use Rattle.answers.specs.Answer.{Moved}
 use Rattle.answers.specs.Account.{Account, told, before, Reports}
 use Rattle.answers.proofs.Numbers.{held, neither, spared}
 use Rattle.words.specs.declared.Operation.{Operation}
-use Rattle.words.specs.declared.Decoded.{Decoded}
-use Rattle.words.specs.Words.{word_of, word_at}
+use Rattle.words.specs.Words.{Decoded, word_of, word_at}
 use Rattle.beliefs.specs.Policy.{Policy, valid, refusal, reading}
 use Rattle.beliefs.specs.Trace.{step, served, run_from, run_refusal, run}
 use Rattle.beliefs.proofs.Lists.{sets_more}

@@ -1,7 +1,7 @@
 -- One verdict on every check of a trace, by three runs.
 use Rattle.std.specs.Prelude.{◌≡◌, true, List, map, ℕ, length}
 use Rattle.std.proofs.lemmas.List.Edits.{sets}
-use Rattle.answers.specs.declared.Report.{Report}
+use Rattle.answers.specs.Account.{Report}
 use Rattle.answers.specs.Answer.{kind_only}
 use Rattle.beliefs.specs.Policy.{Policy}
 use Rattle.beliefs.specs.Trace.{run}

@@ -4,8 +4,7 @@ use Rattle.std.proofs.lemmas.List.Edits.{sets}
 use Rattle.answers.specs.Answer.{Moved}
 use Rattle.answers.specs.Account.{told, before}
 use Rattle.words.specs.declared.Operation.{Operation}
-use Rattle.words.specs.declared.Decoded.{Decoded}
-use Rattle.words.specs.Words.{word_at}
+use Rattle.words.specs.Words.{Decoded, word_at}
 use Rattle.beliefs.specs.Policy.{Policy, reading}
 use Rattle.beliefs.specs.Trace.{run_from}
 

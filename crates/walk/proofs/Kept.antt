@@ -10,8 +10,7 @@ use lib.Pow.{pow_pos}
 use lib.Seq.{get_or-set_same}
 use borrow.Author.Tests.{ne_eqb}
 use Rattle.bits.proofs.Laws.{with_lt, without_lt}
-use Rattle.answers.specs.declared.Answer.{Answer}
-use Rattle.answers.specs.Answer.{verdict_byte, done, Gives}
+use Rattle.answers.specs.Answer.{Answer, verdict_byte, done, Gives}
 use Rattle.words.specs.declared.Operation.{Operation}
 use Rattle.words.specs.declared.Operation.TheVariants.{Call, Return, Enable, Disable, Revert, Check}
 use Rattle.words.specs.Words.{outside, framed, barred}

@@ -1,6 +1,6 @@
 -- What a decoded word is: an operation of the policy's signers and targets, with its index, or a refusal by a number other than 0; and what an operation
 -- that nothing refuses has. Assumes nothing.
-use mathlib.Core.Path.{◌≡◌, refl, ap}
+use mathlib.Core.Path.{◌≡◌, refl, sym, ap, ◌∙◌}
 use mathlib.Core.Logic.{◌≢◌}
 use mathlib.Core.Bool.{Bool, true, false, cond, not}
 use Prim.Native.Nat.{ℕ, ◌≤◌, ◌<◌}
@@ -9,12 +9,13 @@ use lib.Dec.{eqb, ltb}
 use borrow.Author.Tests.{eqb-true, eqb-false, ltb-true, not-true}
 use Rattle.answers.specs.Numbers.{unknown, bit_set, no_target, unless}
 use Rattle.answers.proofs.Numbers.{held, at_most}
+use Rattle.answers.proofs.Refusals.{said, said_number}
+use Rattle.answers.specs.declared.Refusal.{Refusal}
+use Rattle.std.specs.Prelude.{Result, Ok, Err}
 use Rattle.words.specs.declared.Operation.{Operation}
 use Rattle.words.specs.declared.Operation.TheVariants.{Call, Return, Enable, Disable, Revert, Check}
 use Rattle.words.specs.declared.Word.{Word as Held}
-use Rattle.words.specs.declared.Decoded.{Decoded}
-use Rattle.words.specs.declared.Decoded.TheVariants.{Word, Refused}
-use Rattle.words.specs.Words.{word_operation, operation_of, stray_in, outside, framed, deeper, barred, decoded, number_of}
+use Rattle.words.specs.Words.{Decoded, Word, Refused, word_operation, operation_of, stray_in, outside, framed, deeper, barred, decoded, decoding, number_of}
 
 -- what a word is decoded to, by its three tests
 abbrev choice : ℕ → ℕ → ℕ → ℕ → Bool → Bool → Bool → Decoded
@@ -36,6 +37,21 @@ decoded_fair s n w i = go (ltb 5 (word_operation w)) (stray_in w) (eqb (outside 
     go false true c q = omega arith
     go false false true q = eqb-true _ 0 q
     go false false false q = eqb-false _ 0 q
+
+-- what the decoder answers is the one result that says what it is decoded to
+module _ (other : Held) where
+  abbrev undecoded : Decoded → Result Held Refusal
+  undecoded (Word x) = Ok x
+  undecoded (Refused n) = said n other
+
+  undecoded_back : (r : Result Held Refusal) → undecoded (decoding r) ≡ r
+  undecoded_back (Ok x) = refl
+  undecoded_back (Err r) = said_number r other
+
+pub one_decoded : {r q : Result Held Refusal} → decoding r ≡ decoding q → r ≡ q
+one_decoded {r} {q} h =
+    let other : Held = record { op = Return; index = 0 } in
+    sym (undecoded_back other r) ∙ (ap (undecoded other) h ∙ undecoded_back other q)
 
 -- a decoded word holds its index
 pub decoded_index : (s n w i : ℕ) (x : Held) → Word x ≡ decoded s n w i → x.index ≡ i

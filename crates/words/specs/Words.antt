@@ -1,10 +1,10 @@
 -- "Byte forms", the operation word: operation (3 bits), signer (5), target (6), spare (2); and what refuses an operation.
-use Rattle.std.specs.Prelude.{Bool, cond, not, ◌&&◌, ◌||◌, List, ℕ, ◌+◌, ◌*◌, ◌/◌, ◌%◌, ◌^◌, eqb, ltb, length, get_or}
-use Rattle.answers.specs.Numbers.{bit_set, unknown, no_signer, no_target, no_frame, too_deep, unless}
+use Rattle.std.specs.Prelude.{Bool, cond, not, ◌&&◌, ◌||◌, List, ℕ, ◌+◌, ◌*◌, ◌/◌, ◌%◌, ◌^◌, eqb, ltb, length, get_or, Result, Ok, Err}
+use Rattle.answers.specs.declared.Refusal.{Refusal}
+use Rattle.answers.specs.Numbers.{bit_set, unknown, no_signer, no_target, no_frame, too_deep, number, unless}
 use Rattle.words.specs.declared.Operation.{Operation}
 use Rattle.words.specs.declared.Operation.TheVariants.{Call, Return, Enable, Disable, Revert, Check}
-use Rattle.words.specs.declared.Decoded.{Decoded}
-use Rattle.words.specs.declared.Decoded.TheVariants.{Word, Refused}
+use Rattle.words.specs.declared.Word.{Word as Held}
 
 abbrev pub word_operation : ℕ → ℕ
 word_operation w = w / 2 ^ 13
@@ -56,6 +56,15 @@ barred depth (Enable t) = framed depth
 barred depth (Disable t) = framed depth
 barred depth (Revert t) = framed depth
 barred depth (Check t) = framed depth
+
+-- what a word says: an operation with its index, or the number that refuses it
+pub data Decoded : Type 0 where
+  Word : (x : Held) → Decoded
+  Refused : (n : ℕ) → Decoded
+
+abbrev pub decoding : Result Held Refusal → Decoded
+decoding (Ok x) = Word x
+decoding (Err r) = Refused (number r)
 
 -- a word, under S and N, with its index: 4, 3, 5 or 6, else the operation
 unfoldable pub decoded : ℕ → ℕ → ℕ → ℕ → Decoded

@@ -2,13 +2,16 @@
 #![tactic(auto)]
 
 ghost use Rattle.std.specs.Prelude.{◌≡◌};
-ghost use Rattle.words.specs.Words.{operation_of, stray_in, outside, framed, deeper, barred, decoded, number_of, word_at};
+ghost use Rattle.answers.specs.Numbers.{number_of};
+ghost use Rattle.words.specs.Words.{operation_of, stray_in, outside, framed, deeper, barred, decoded, decoding, word_at};
+
+use answers::Refusal;
 
 // The most frames that a stack has.
 pub const DEPTH_MOST: u64 = 63;
 
 // One operation, with the signer or the target that it uses.
-#[derive(Clone, Copy)]
+#[derive(Clone, Copy, Debug, PartialEq, Eq)]
 pub enum Operation {
     Call(u8),
     Return,
@@ -19,17 +22,10 @@ pub enum Operation {
 }
 
 // An operation and the index of its word in the trace.
-#[derive(Clone, Copy)]
+#[derive(Clone, Copy, Debug, PartialEq, Eq)]
 pub struct Word {
     pub op: Operation,
     pub index: usize,
-}
-
-// What a word says: an operation, or the number that refuses it.
-#[derive(Clone, Copy)]
-pub enum Decoded {
-    Word(Word),
-    Refused(u8),
 }
 
 // The operation of a word. Where its number is 6 or 7, which no caller asks, it is check.
@@ -71,53 +67,53 @@ fn stray(word: u16) -> bool
     false
 }
 
-// 5 for a signer outside a policy of so many signers and targets, 6 for a target, 0 for neither.
-pub fn outside(signers: u64, targets: u64, op: Operation) -> u8
-    ensures { result ≡ outside signers targets op }
+// 5 for a signer outside a policy of so many signers and targets, 6 for a target.
+pub fn outside(signers: u64, targets: u64, op: Operation) -> Result<(), Refusal>
+    ensures { number_of result ≡ outside signers targets op }
 {
     match op {
-        Operation::Call(signer) => answers::unless((signer as u64) < signers, answers::NO_SIGNER),
-        Operation::Return => answers::ACCEPTED,
+        Operation::Call(signer) => answers::unless((signer as u64) < signers, Refusal::NoSigner),
+        Operation::Return => Ok(()),
         Operation::Enable(target)
         | Operation::Disable(target)
         | Operation::Revert(target)
         | Operation::Check(target) => {
-            answers::unless((target as u64) < targets, answers::NO_TARGET)
+            answers::unless((target as u64) < targets, Refusal::NoTarget)
         }
     }
 }
 
 // The same of a word's operation. By the word's fields it is quicker than by the operation, whose case would be asked again.
-fn outside_word(signers: u64, targets: u64, word: u16) -> u8
-    ensures { result ≡ outside signers targets (operation_of word) }
+fn outside_word(signers: u64, targets: u64, word: u16) -> Result<(), Refusal>
+    ensures { number_of result ≡ outside signers targets (operation_of word) }
 {
     let number = word / 8192;
     if number == 0 {
-        return answers::unless(((word / 256 % 32) as u64) < signers, answers::NO_SIGNER);
+        return answers::unless(((word / 256 % 32) as u64) < signers, Refusal::NoSigner);
     }
     if number == 1 {
-        return answers::ACCEPTED;
+        return Ok(());
     }
-    answers::unless(((word / 4 % 64) as u64) < targets, answers::NO_TARGET)
+    answers::unless(((word / 4 % 64) as u64) < targets, Refusal::NoTarget)
 }
 
-// 7 where there is no frame, 0 where there is one.
-pub fn framed(depth: u64) -> u8
-    ensures { result ≡ framed depth }
+// 7 where there is no frame.
+pub fn framed(depth: u64) -> Result<(), Refusal>
+    ensures { number_of result ≡ framed depth }
 {
-    answers::unless(depth != 0, answers::NO_FRAME)
+    answers::unless(depth != 0, Refusal::NoFrame)
 }
 
-// 8 where there is no room for a frame more, 0 where there is.
-pub fn deeper(depth: u64) -> u8
-    ensures { result ≡ deeper depth }
+// 8 where there is no room for a frame more.
+pub fn deeper(depth: u64) -> Result<(), Refusal>
+    ensures { number_of result ≡ deeper depth }
 {
-    answers::unless(depth < DEPTH_MOST, answers::TOO_DEEP)
+    answers::unless(depth < DEPTH_MOST, Refusal::TooDeep)
 }
 
-// 7 where there is no frame and the operation is not call, 8 for a call at depth 63, 0 for neither.
-pub fn barred(depth: u64, op: Operation) -> u8
-    ensures { result ≡ barred depth op }
+// 7 where there is no frame and the operation is not call, 8 for a call at depth 63.
+pub fn barred(depth: u64, op: Operation) -> Result<(), Refusal>
+    ensures { number_of result ≡ barred depth op }
 {
     match op {
         Operation::Call(_) => deeper(depth),
@@ -126,31 +122,18 @@ pub fn barred(depth: u64, op: Operation) -> u8
 }
 
 // A word of a trace, under a policy of so many signers and targets: 4, 3, 5 or 6, else its operation with its index.
-pub fn decode(signers: u64, targets: u64, word: u16, index: usize) -> Decoded
-    ensures { result ≡ decoded signers targets word index }
+pub fn decode(signers: u64, targets: u64, word: u16, index: usize) -> Result<Word, Refusal>
+    ensures { decoding result ≡ decoded signers targets word index }
 {
     if 5 < word / 8192 {
-        return Decoded::Refused(answers::UNKNOWN);
+        return Err(Refusal::Unknown);
     }
     if stray(word) {
-        return Decoded::Refused(answers::BIT_SET);
+        return Err(Refusal::BitSet);
     }
-    let number = outside_word(signers, targets, word);
-    if number != answers::ACCEPTED {
-        return Decoded::Refused(number);
-    }
+    outside_word(signers, targets, word)?;
     let op = named(word);
-    Decoded::Word(Word { op, index })
-}
-
-// The number of the decoder's answer: 0 for an operation.
-pub fn number(d: Decoded) -> u8
-    ensures { result ≡ number_of d }
-{
-    match d {
-        Decoded::Word(_) => answers::ACCEPTED,
-        Decoded::Refused(n) => n,
-    }
+    Ok(Word { op, index })
 }
 
 // The word at an index of a trace, its first byte the high one: 0 past the last whole word.

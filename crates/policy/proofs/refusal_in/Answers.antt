@@ -1,9 +1,12 @@
 -- The policy's own number, and where that is 0 the state's.
-use borrow.Author.Tests.{eq-eqb, ne_eqb}
+use Rattle.std.proofs.lemmas.Result.{err_from_is_err_and}
+use Rattle.answers.proofs.Refusals.{some_number}
 use Rattle.policy.proofs.refusal_in.Goals as goal
 
-pub returns-then-number-ne-ACCEPTED : goal.returns-then-number-ne-ACCEPTED
-returns-then-number-ne-ACCEPTED c = rw (← c.refusal-number.ensures, ne_eqb _ _ c.if-number-ne-ACCEPTED.true)
+pub returns-in_err-refusal : goal.returns-in_err-refusal
+returns-in_err-refusal c =
+    let p = err_from_is_err_and c.from_residual.result c.from_residual.ensures.1 in
+    rw (p.1, p.2, ← c.in_err-refusal.ensures, some_number c.in_err-refusal.field-0.0)
 
 pub returns : goal.returns
-returns c = rw (← c.refusal-number.ensures, eq-eqb _ _ c.if-number-ne-ACCEPTED.false) c.unless.ensures
+returns c = rw (← c.in_ok-refusal.ensures) c.unless.ensures

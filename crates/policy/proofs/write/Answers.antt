@@ -1,49 +1,51 @@
 -- The tests come in the definition's order, and each callee says what its part of the definition is.
-use borrow.Author.Tests.{lt-ltb, le-ltb, eq-eqb, ne_eqb}
-use mathlib.Core.Path.{◌≡◌, refl, sym, ◌∙◌}
+use borrow.Author.Tests.{leb-true}
+use mathlib.Core.Path.{◌≡◌, refl, sym}
 use native.Mathlib.Omega.{arith}
-use Rattle.beliefs.specs.Policy.{signers, targets, size, refusal, writing}
+use Rattle.std.proofs.lemmas.Result.{err_from_is_err_and}
+use Rattle.answers.proofs.Numbers.{held, room}
+use Rattle.answers.proofs.Refusals.{some_number}
+use Rattle.beliefs.specs.Policy.{signers, targets, size, writing}
 use Rattle.beliefs.proofs.Policy.{ranges, let_in}
 use Rattle.policy.proofs.write.Goals as goal
-use Rattle.policy.proofs.write.Goals.{After-size-wanted, Else-number-ne-ACCEPTED}
-
-let_through : (c : goal.Else-number-ne-ACCEPTED) → refusal c.args.policy.now ≡ 0
-let_through c = sym c.refusal-number.ensures ∙ c.if-number-ne-ACCEPTED.false
+use Rattle.policy.proofs.write.Goals.{After-size-wanted}
 
 -- the bytes wanted, as the definition counts them
 wanted : (c : goal.After-size-wanted)
     → let p = c.args.policy.now in c.size-wanted.result ≡ size (signers p) (targets p)
 wanted c = rw (← c.targets.ensures, ← c.signers.ensures) c.size-wanted.ensures
 
-pub returns-then-number-ne-ACCEPTED : goal.returns-then-number-ne-ACCEPTED
+pub returns-in_err-refusal : goal.returns-in_err-refusal
 unfolding writing
-returns-then-number-ne-ACCEPTED c =
-    rw (← c.refusal-number.ensures, ne_eqb _ _ c.if-number-ne-ACCEPTED.true, ne_eqb _ _ c.if-number-ne-ACCEPTED.true)
-    (record { number = refl; figure = refl; buffer = refl })
+returns-in_err-refusal c =
+    let p = err_from_is_err_and c.from_residual.result c.from_residual.ensures.1 in
+    let no = some_number c.in_err-refusal.field-0.0 in
+    rw (p.1, p.2, ← c.in_err-refusal.ensures, no, no) (record { number = refl; figure = refl; buffer = refl })
 
 pub size-wanted-requires : goal.size-wanted-requires
-size-wanted-requires c = let r = ranges _ (let_in _ (let_through (goal.at.size-wanted-requires c).Else-number-ne-ACCEPTED)) in omega arith
+size-wanted-requires c = let r = ranges _ (let_in _ (sym c.in_ok-refusal.ensures)) in omega arith
 
-pub returns-then-bytes-wanted : goal.returns-then-bytes-wanted
+pub returns-in_err-unless : goal.returns-in_err-unless
 unfolding writing
-returns-then-bytes-wanted c =
+returns-in_err-unless c =
+    let p = err_from_is_err_and c.from_residual-in_err-unless.result c.from_residual-in_err-unless.ensures.1 in
     rw (
-      eq-eqb _ _ (let_through (goal.at.returns-then-bytes-wanted c).Else-number-ne-ACCEPTED),
-      ← wanted (goal.at.returns-then-bytes-wanted c).After-size-wanted,
-      lt-ltb _ _ c.if-bytes-wanted.true,
+      p.1,
+      p.2,
+      ← c.in_ok-refusal.ensures,
+      ← wanted (goal.at.returns-in_err-unless c).After-size-wanted,
+      ← room _ _,
+      ← c.in_err-unless.ensures,
+      some_number c.in_err-unless.field-0.0,
     )
     (record { number = refl; figure = refl; buffer = refl })
 
 pub put-requires : goal.put-requires
 put-requires c =
-    (let_in _ (let_through (goal.at.put-requires c).Else-number-ne-ACCEPTED), rw (← wanted (goal.at.put-requires c).After-size-wanted) c.if-bytes-wanted.false)
+    (let_in _ (sym c.in_ok-refusal.ensures), rw (← wanted (goal.at.put-requires c).After-size-wanted) (leb-true _ _ (held _ 8 (sym c.in_ok-unless.ensures))))
 
 pub returns : goal.returns
 unfolding writing
 returns c =
-    rw (
-      eq-eqb _ _ (let_through (goal.at.returns c).Else-number-ne-ACCEPTED),
-      ← wanted (goal.at.returns c).After-size-wanted,
-      le-ltb _ _ c.if-bytes-wanted.false,
-    )
+    rw (← c.in_ok-refusal.ensures, ← wanted (goal.at.returns c).After-size-wanted, ← room _ _, ← c.in_ok-unless.ensures)
     (record { number = refl; figure = refl; buffer = c.put.ensures })

@@ -2,8 +2,7 @@
 use borrow.Author.Rules.{rules}
 use mathlib.Core.List.{List}
 use Prim.Native.Nat.{ℕ}
-use Rattle.answers.specs.declared.Answer.{Answer}
-use Rattle.answers.specs.Answer.{Gives}
+use Rattle.answers.specs.Answer.{Answer, Gives}
 use Rattle.words.specs.Words.{barred}
 use Rattle.beliefs.specs.Engine.{acts, Serve}
 use Rattle.record.specs.Pictures.{by_record}

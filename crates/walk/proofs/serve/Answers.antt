@@ -4,8 +4,7 @@ use mathlib.Core.Path.{◌≡◌}
 use mathlib.Core.List.{List}
 use Prim.Native.Nat.{ℕ}
 use lib.ListN.{length}
-use Rattle.answers.specs.declared.Answer.{Answer}
-use Rattle.answers.specs.Answer.{Gives}
+use Rattle.answers.specs.Answer.{Answer, Gives}
 use Rattle.words.specs.Words.{barred}
 use Rattle.beliefs.specs.Engine.{acts, Serve}
 use Rattle.walk.specs.Pictures.{by_walk}

@@ -6,7 +6,7 @@ use Prim.Native.Nat.{ℕ}
 use lib.ListN.{get_or}
 use Rattle.words.specs.declared.Operation.{Operation}
 use Rattle.words.specs.declared.Operation.TheVariants.{Call, Return, Enable, Disable, Revert, Check}
-use Rattle.words.specs.declared.Decoded.{Decoded}
+use Rattle.words.specs.Words.{Decoded}
 use Rattle.beliefs.specs.Policy.{reading}
 use Rattle.lines.specs.Text.{op_line, decoded_line, word_line}
 use Rattle.lines.proofs.Run.word.Goals as goal

@@ -9,8 +9,8 @@ use Rattle.bits.specs.Bit.{below}
 use Rattle.beliefs.specs.Lists.{all}
 use Rattle.answers.specs.Numbers.{too_few, left_over, bit_set}
 use Rattle.beliefs.specs.Policy.{width, rows_of, head_spare, read_number}
-use Rattle.policy.proofs.read_number.Goals as goal
-use Rattle.policy.proofs.read_number.Goals.{After-padding_clear, After-size-wanted}
+use Rattle.policy.proofs.refusal_read.Goals as goal
+use Rattle.policy.proofs.refusal_read.Goals.{After-padding_clear, After-size-wanted}
 
 -- what is left of the definition past the header
 past : (c : goal.After-size-wanted)
