@@ -3,15 +3,17 @@
 
 ghost use Rattle.std.specs.Prelude.{◌≡◌, ◌+◌, ◌<◌, ◌≤◌, ◌++◌, length};
 ghost use Rattle.arrayvec.specs.ArrayString.{array_string_len};
+ghost use Rattle.answers.specs.Numbers.{number};
+ghost use Rattle.answers.specs.Account.{report_of};
 ghost use Rattle.lines.specs.Text.{item, start, verdict};
 ghost use Rattle.lines.specs.Text.{policy_line, check_line, end_line, refused_line, last_line, word_line};
-ghost use Rattle.lines.specs.Page.{words_run, line_at, page_from};
+ghost use Rattle.lines.specs.Page.{words_run, run_line, run_page};
 ghost use Rattle.lines.specs.Promise.{Delivers, Lined, Fills};
 
-use answers::Report;
+use answers::{Report, Stop};
 use arrayvec::ArrayString;
 use policy::Policy;
-use words::{Decoded, Operation};
+use words::{Operation, Word};
 
 // Room for the longest line: three numbers of at most 20 digits, and "forbidden" between them.
 pub const LINE_MOST: usize = 80;
@@ -97,13 +99,13 @@ fn end_text(words: u64) -> Line
 }
 
 // The last line where a word, or all of it, was refused.
-fn refused_text(number: u8, index: u64) -> Line
-    ensures { result.bytes ≡ refused_line number index }
+fn refused_text(stop: Stop) -> Line
+    ensures { result.bytes ≡ refused_line (number stop.why) stop.at }
 {
     let mut line = Line::new();
     line.push_str("refused ");
-    push_item(&mut line, number as u64, ' ');
-    push_item(&mut line, index, '\n');
+    push_item(&mut line, stop.why.number() as u64, ' ');
+    push_item(&mut line, stop.at, '\n');
     line
 }
 
@@ -141,18 +143,19 @@ pub fn end_line(words: u64, out: &mut [u8]) -> usize
 }
 
 // The last line of a run that was refused, and the only one of a refused policy.
-pub fn refused_line(number: u8, index: u64, out: &mut [u8]) -> usize
-    ensures { Lined result out.old out.new (refused_line number index) }
+pub fn refused_line(stop: Stop, out: &mut [u8]) -> usize
+    ensures { Lined result out.old out.new (refused_line (number stop.why) stop.at) }
 {
-    deliver(&refused_text(number, index), out).unwrap_or(0)
+    deliver(&refused_text(stop), out).unwrap_or(0)
 }
 
 impl Run<'_> {
     // How many words of the trace were run.
     fn words(&self) -> usize
-        ensures { result ≡ words_run self.now.trace.now self.now.report.figure }
+        ensures { result ≡ words_run self.now.trace.now (report_of self.now.report).figure }
     {
-        (self.trace.len() / 2).min(self.report.figure as usize)
+        let figure = self.report.unwrap_or_else(|stop| stop.at);
+        (self.trace.len() / 2).min(figure as usize)
     }
 
     // A word's line where it is a check, nothing where it is not, or is refused. Where the answers are too few the check was not granted.
@@ -160,13 +163,15 @@ impl Run<'_> {
         ensures { result.bytes ≡ word_line self.now.policy.now self.now.trace.now self.now.answers.now index }
     {
         let word = words::word_at(self.trace, index);
-        let Decoded::Word(w) = policy::decode(self.policy, word, index) else {
-            return Line::new();
-        };
-        match w.op {
-            Operation::Check(target) => {
+        match policy::decode(self.policy, word, index) {
+            Ok(
+                Word {
+                    op: Operation::Check(target),
+                    ..
+                },
+            ) => {
                 let answer = self.answers.get(index).copied().unwrap_or(0);
-                check_text(w.index, target, answer)
+                check_text(index, target, answer)
             }
             _ => Line::new(),
         }
@@ -174,19 +179,17 @@ impl Run<'_> {
 
     // The last line, by the report.
     fn last(&self) -> Line
-        ensures { result.bytes ≡ last_line self.now.report.number self.now.report.figure }
+        ensures { result.bytes ≡ last_line (report_of self.now.report).number (report_of self.now.report).figure }
     {
-        let Report { number, figure } = self.report;
-        if number == answers::ACCEPTED {
-            end_text(figure)
-        } else {
-            refused_text(number, figure)
+        match self.report {
+            Ok(words) => end_text(words),
+            Err(stop) => refused_text(stop),
         }
     }
 
     // The line at a place of the listing: the policy's, those of the words that were run, the last.
     fn line(&self, place: usize) -> Line
-        ensures { result.bytes ≡ line_at self.now.policy.now self.now.trace.now self.now.answers.now self.now.report place }
+        ensures { result.bytes ≡ run_line self.now place }
     {
         if place == 0 {
             policy_text(self.policy)
@@ -200,8 +203,7 @@ impl Run<'_> {
 
 // A page of the listing of a run: as many whole lines from a place on as the buffer takes. A buffer of LINE_MOST bytes takes at least one.
 pub fn fill(run: &Run<'_>, from: usize, out: &mut [u8]) -> Filled
-    ensures { Fills result out.old out.new
-        (page_from run.now.policy.now run.now.trace.now run.now.answers.now run.now.report (length out.old) from) }
+    ensures { Fills result out.old out.new (run_page run.now (length out.old) from) }
 {
     let mut page = Filled { next: from, len: 0 };
     for place in from..run.words() + 2 {

@@ -2,18 +2,15 @@
 use native.Mathlib.Omega.{arith}
 use mathlib.Core.Path.{◌≡◌, refl, sym, ap, ◌∙◌}
 use lib.ListN.{length}
-use Rattle.lines.specs.Page.{line_at}
+use Rattle.lines.specs.Page.{run_line}
 use Rattle.lines.proofs.After.{length_rest, nothing_behind, behind}
 use Rattle.lines.proofs.Pages.{onward, full, finished}
 use Rattle.lines.proofs.fill.Goals as goal
 use Rattle.lines.proofs.fill.Goals.{After-line}
 
 -- the line at the page's next place
-next_line : (c : After-line) → let run = c.args.run.now in
-    c.line.result.bytes ≡ line_at run.policy.now run.trace.now run.answers.now run.report c.loop-place.page.next
-next_line c =
-    let run = c.args.run.now in
-    c.line.ensures ∙ ap (line_at run.policy.now run.trace.now run.answers.now run.report) (sym c.loop-place.invariant.0)
+next_line : (c : After-line) → c.line.result.bytes ≡ run_line c.args.run.now c.loop-place.page.next
+next_line c = c.line.ensures ∙ ap (run_line c.args.run.now) (sym c.loop-place.invariant.0)
 
 pub returns-in_default : goal.returns-in_default
 returns-in_default c =
