@@ -163,13 +163,11 @@ impl Run<'_> {
         ensures { result.bytes ≡ word_line self.now.policy.now self.now.trace.now self.now.answers.now index }
     {
         let word = words::word_at(self.trace, index);
-        match policy::decode(self.policy, word, index) {
-            Ok(
-                Word {
-                    op: Operation::Check(target),
-                    ..
-                },
-            ) => {
+        let Ok(Word { op, .. }) = policy::decode(self.policy, word, index) else {
+            return Line::new();
+        };
+        match op {
+            Operation::Check(target) => {
                 let answer = self.answers.get(index).copied().unwrap_or(0);
                 check_text(index, target, answer)
             }

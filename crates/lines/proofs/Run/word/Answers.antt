@@ -1,4 +1,4 @@
--- What the word is decoded to decides, as in the definition.
+-- What the word is decoded to decides, and then its operation, as in the definition.
 use borrow.Author.Rules.{rules}
 use mathlib.Core.Path.{◌≡◌, refl, sym, ap, ◌∙◌}
 use mathlib.Core.List.{[]}
@@ -11,7 +11,7 @@ use Rattle.words.proofs.Words.{decoded_index}
 use Rattle.beliefs.specs.Policy.{reading}
 use Rattle.lines.specs.Text.{op_line, decoded_line, word_line}
 use Rattle.lines.proofs.Run.word.Goals as goal
-use Rattle.lines.proofs.Run.word.Goals.{After-decode, in_default-via-in-Ok+in_default, in_default-via-in_default}
+use Rattle.lines.proofs.Run.word.Goals.{After-decode}
 
 -- an operation that is not check
 other : (op : Operation) (i answer : ℕ) → ((t : ℕ) → op ≡ Check t → ⊥) → op_line op i answer ≡ []
@@ -31,18 +31,15 @@ line c =
     let said = c.decode.ensures ∙ ap (λ (w : ℕ). reading run.policy.now w c.args.index) c.word_at-word.ensures in
     ap (λ (d : Decoded). decoded_line d (get_or run.answers.now c.args.index 0)) (sym said)
 
-pub returns-in-Ok-Check : goal.returns-in-Ok-Check
-returns-in-Ok-Check c =
-    let arm = c.in-Ok-Check in
-    let answer : c.unwrap_or-answer.result ≡ get_or c.args.self.now.answers.now c.args.index 0 = search rules in
-    let op : arm.field-0.op ≡ Check arm.target = search rules in
-    let index : arm.field-0.index ≡ c.args.index = decoded_index _ _ _ _ arm.field-0 (sym (ap decoding arm.is) ∙ c.decode.ensures) in
-    rw (line (goal.at.returns-in-Ok-Check c).After-decode, arm.is, op, index, ← answer) c.check_text.ensures
-
 pub returns-in_default : goal.returns-in_default
-returns-in_default c =
-    elim c.in_default.branch [
-      | in_default-via-in-Ok+in_default w ↦
-          rw (line (goal.at.returns-in_default c).After-decode, w.in_default.is, other w.in_default.field-0.op _ _ (search rules)) c.new.ensures
-      | in_default-via-in_default w ↦ rw (line (goal.at.returns-in_default c).After-decode, w.in_default.is) c.new.ensures
-    ]
+returns-in_default c = rw (line (goal.at.returns-in_default c).After-decode, c.in_default.is) c.new.ensures
+
+pub returns-in-Check : goal.returns-in-Check
+returns-in-Check c =
+    let answer : c.unwrap_or-answer.result ≡ get_or c.args.self.now.answers.now c.args.index 0 = search rules in
+    let index : c.in-Ok.field-0.index ≡ c.args.index = decoded_index _ _ _ _ c.in-Ok.field-0 (sym (ap decoding c.in-Ok.is) ∙ c.decode.ensures) in
+    rw (line (goal.at.returns-in-Check c).After-decode, c.in-Ok.is, c.in-Check.is, index, ← answer) c.check_text.ensures
+
+pub returns-in_default-op : goal.returns-in_default-op
+returns-in_default-op c =
+    rw (line (goal.at.returns-in_default-op c).After-decode, c.in-Ok.is, other c.in-Ok.field-0.op _ _ (search rules)) c.new-in_default-op.ensures
