@@ -14,4 +14,4 @@ use Rattle.engine.proofs.operate as operate
 module _ (E S : RattleType) (l : Laws E) (m : Laws S) (copied : IsCopy S) (e : Engine.Ghosts E.Denot S.Denot) (c : Clone.Ghosts S.Denot) (d k : Dict) where
   pub operate_unique : ((s t : S.Denot) → e.words s ≡ e.words t → s ≡ t)
       → Fixes (contracts.operate.ended E S e d c k) (operate.Reads.Post E S l m copied e d c k)
-  operate_unique same _ _ r q ws vs h n = ?
+  operate_unique same _ _ _ _ _ _ h n = let g = gives_unique (λ w. w) h.exact n.exact in (g.0, λ i. (tt, (same _ _ g.1 i, (tt, tt))))

@@ -23,8 +23,8 @@ use Rattle.beliefs.specs.Stack.{Stack}
 use Rattle.beliefs.proofs.Policy.{both}
 use Rattle.beliefs.proofs.Granted.{start_lt}
 use Rattle.passed.specs.declared.Passed.{Passed}
-use Rattle.passed.specs.declared.Next.{Next}
-use Rattle.passed.specs.declared.Next.TheVariants.{Stay, Down, Up, Refused}
+use Rattle.passed.specs.Does.{Led}
+use Rattle.passed.specs.Does.{Stay, Down, Up, Refused}
 use Rattle.passed.specs.Fits.{fits}
 use Rattle.passed.specs.Does.{fresh, granted_of, bottom_of, callee_of, call_of, led_to}
 use Rattle.passed.specs.Pictures.{Framed, Pictures}
@@ -80,7 +80,7 @@ module _ (p : Policy) (s : Passed) where
       framed_fits some (h.framed some)
 
 -- the state that an answer carries, where it carries one
-abbrev pub Fit : Policy → Next → Type 0
+abbrev pub Fit : Policy → Led → Type 0
 Fit p (Stay s b) = fits p s ≡ true
 Fit p (Down s) = fits p s ≡ true
 Fit p Up = Unit {0}

@@ -23,8 +23,8 @@ use Rattle.beliefs.proofs.Policy.{Ranges, ranges, in_word}
 use Rattle.beliefs.proofs.Granted.{granted_split, own_enable, own_disable, own_revert, own_marks, own_called}
 use Rattle.beliefs.proofs.Granted.{inherited_enable, inherited_disable, inherited_revert, inherited_start, inherited_called}
 use Rattle.passed.specs.declared.Passed.{Passed}
-use Rattle.passed.specs.declared.Next.{Next}
-use Rattle.passed.specs.declared.Next.TheVariants.{Refused}
+use Rattle.passed.specs.Does.{Led}
+use Rattle.passed.specs.Does.{Refused}
 use Rattle.passed.specs.Fits.{fits}
 use Rattle.passed.specs.Does.{fresh, granted_of, call_of, enable_of, disable_of, revert_of, check_of, led_to, next_of}
 use Rattle.passed.specs.Pictures.{Knows, Pictures, Stays, Goes, Passes}
@@ -141,5 +141,5 @@ module _ (p : Policy) (s : Passed) where
       go false q = record { number = refl; refused = eqb-false (barred s.depth op) 0 q }
 
   -- so what is exactly given serves the belief sets
-  pub served : (op : Operation) (r : Next) → r ≡ next_of p s op → Passes p s op r
+  pub served : (op : Operation) (r : Led) → r ≡ next_of p s op → Passes p s op r
   served op r e = record { exact = e; serves = λ v i st h. rw e (simulate op v i st h) }

@@ -1,3 +1,4 @@
+pub mod Led
 pub mod Fits
 pub mod Kept
 pub mod Live

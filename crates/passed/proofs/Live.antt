@@ -24,7 +24,7 @@ use Rattle.beliefs.proofs.Lists.{any_append}
 use Rattle.beliefs.proofs.Policy.{both, ranges, let_in_with, not_refused_with}
 use Rattle.beliefs.proofs.Chosen.{chosen, chosen_any}
 use Rattle.passed.specs.declared.Passed.{Passed}
-use Rattle.passed.specs.declared.Next.TheVariants.{Refused}
+use Rattle.passed.specs.Does.{Refused}
 use Rattle.passed.specs.Fits.{fits}
 use Rattle.passed.specs.Does.{led_to, next_of, refused_by, operate_of}
 use Rattle.passed.specs.Pictures.{Knows, Framed, Pictures, Goes}

@@ -1,5 +1,8 @@
 -- Each promise fixes its result: of two results that both keep it, one is the other. Assumes nothing.
-use Rattle.bits.proofs.Unique.{Fixes, alone}
+use mathlib.Core.Path.{refl}
+use Rattle.bits.proofs.Unique.{Fixes, one_result, alone}
+use Rattle.answers.proofs.Unique.{refused_unique}
+use Rattle.passed.proofs.Led.{one_led}
 use Rattle.passed.specs.contracts as contracts
 use Rattle.passed.proofs.Passed.fresh as fresh
 use Rattle.passed.proofs.Passed.call as call
@@ -30,10 +33,10 @@ pub check_unique : Fixes contracts.Passed.check.ended check.Reads.Post
 check_unique _ _ _ _ _ _ = alone
 
 pub serve_unique : Fixes contracts.serve.ended serve.Reads.Post
-serve_unique _ _ _ _ _ _ h k = alone h.exact k.exact
+serve_unique _ _ _ _ _ _ h k = (one_led (one_result h.exact k.exact), refl)
 
 pub valid_unique : Fixes contracts.valid.ended valid.Reads.Post
 valid_unique _ _ _ _ _ _ = alone
 
 pub refusal_unique : Fixes contracts.refusal.ended refusal.Reads.Post
-refusal_unique _ _ _ _ _ _ = alone
+refusal_unique _ _ _ _ _ _ = refused_unique

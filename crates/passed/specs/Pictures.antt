@@ -9,9 +9,7 @@ use Rattle.beliefs.specs.Stack.{Frame, Stack, own}
 use Rattle.beliefs.specs.Trace.{below, step}
 use Rattle.beliefs.specs.Engine.{inherited}
 use Rattle.passed.specs.declared.Passed.{Passed}
-use Rattle.passed.specs.declared.Next.{Next}
-use Rattle.passed.specs.declared.Next.TheVariants.{Stay, Down, Up, Refused}
-use Rattle.passed.specs.Does.{fresh, next_of}
+use Rattle.passed.specs.Does.{Led, Stay, Down, Up, Refused, fresh, next_of}
 
 -- of the newest frame: its signer; each target whose Ok(T) itself it holds; each target on which it holds a belief that came
 -- down with a call and whose every frame has a signer permitted it
@@ -72,13 +70,13 @@ pub record Refuses (m : Moved Stack) (n : ℕ) : Type 0 where
   pub refused : n ≢ 0
 
 -- document 01's number and values for each case of the answer, against what the definition's step gives on a stack
-abbrev pub Goes : Policy → Stack → Moved Stack → Next → Type 0
+abbrev pub Goes : Policy → Stack → Moved Stack → Led → Type 0
 Goes p st m (Stay s b) = Stays p st m s b
 Goes p st m (Down s) = Descends p st m s
 Goes p st m Up = Ascends st m
 Goes p st m (Refused n) = Refuses m n
 
 -- an operation that the caller has decoded: exactly, on the four words; and against the belief sets, on each stack that they picture
-pub record Passes (p : Policy) (s : Passed) (op : Operation) (r : Next) : Type 0 where
+pub record Passes (p : Policy) (s : Passed) (op : Operation) (r : Led) : Type 0 where
   pub exact : r ≡ next_of p s op
   pub serves : valid p ≡ true → outside_of p op ≡ 0 → (st : Stack) → Pictures p s st → Goes p st (step false p op st) r

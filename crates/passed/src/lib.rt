@@ -2,12 +2,19 @@
 #![tactic(auto)]
 
 ghost use Rattle.std.specs.Prelude.{◌≡◌};
-ghost use Rattle.passed.specs.Fits.{nothing_in, bits_fit, fits};
-ghost use Rattle.passed.specs.Does.{refused_by, granted_of, call_of, enable_of, disable_of, revert_of, check_of};
+ghost use Rattle.answers.specs.Numbers.{number_of};
+ghost use Rattle.passed.specs.Fits.{bits_fit, fits};
+ghost use Rattle.passed.specs.Does.{passed_in, words_of, refused_by, granted_of, call_of, enable_of, disable_of, revert_of, check_of, led_to, next_in, leading};
 ghost use Rattle.passed.specs.Pictures.{Begins, Passes};
 
+use answers::Refusal;
 use policy::Policy;
 use words::Operation;
+
+// A state's words: depth, signer, own, callers.
+pub const WORDS: usize = 4;
+
+pub type State = [u64; WORDS];
 
 // A word with no bit set.
 const NO_TARGETS: u64 = 0;
@@ -17,7 +24,7 @@ const DONE: u8 = 0;
 
 // What a frame knows. `own`: what it enabled itself, or a full start handed it, and it has not reverted or disabled since;
 // `callers`: what its callers would have been granted at the call, and it has not disabled since.
-#[derive(Clone, Copy)]
+#[derive(Clone, Copy, Debug, PartialEq, Eq)]
 pub struct Passed {
     pub depth: u64,
     pub signer: u64,
@@ -25,13 +32,34 @@ pub struct Passed {
     pub callers: u64,
 }
 
-// What an operation leads to: the same frame with an answer byte, the callee, the caller, or the number for no.
-#[derive(Clone, Copy)]
+// What an operation leads to: the same frame with an answer byte, the callee, or the caller.
+#[derive(Clone, Copy, Debug, PartialEq, Eq)]
 pub enum Next {
     Stay(Passed, u8),
     Down(Passed),
     Up,
-    Refused(u8),
+}
+
+impl From<State> for Passed {
+    ghost from_gives = { λ words s. s ≡ passed_in words };
+
+    fn from(words: State) -> Passed {
+        let [depth, signer, own, callers] = words;
+        Passed {
+            depth,
+            signer,
+            own,
+            callers,
+        }
+    }
+}
+
+impl From<Passed> for State {
+    ghost from_gives = { λ s words. words ≡ words_of s };
+
+    fn from(s: Passed) -> State {
+        [s.depth, s.signer, s.own, s.callers]
+    }
 }
 
 impl Passed {
@@ -113,40 +141,31 @@ impl Passed {
         let granted = self.granted(policy);
         bits::has(granted, target)
     }
+
+    // Where an operation that nothing refuses leads.
+    fn led(self, policy: &Policy, op: Operation) -> Next
+        ensures { next_in result ≡ led_to policy.now self op }
+    {
+        match op {
+            Operation::Call(signer) => Next::Down(self.call(policy, signer)),
+            Operation::Return => Next::Up,
+            Operation::Enable(target) => Next::Stay(self.enable(target), DONE),
+            Operation::Disable(target) => Next::Stay(self.disable(target), DONE),
+            Operation::Revert(target) => Next::Stay(self.revert(target), DONE),
+            Operation::Check(target) => {
+                let byte = answers::verdict_byte(self.check(policy, target), 0);
+                Next::Stay(self, byte)
+            }
+        }
+    }
 }
 
 // What an operation of the policy's signers and targets does: 7, 8, else where it leads.
-pub fn serve(policy: &Policy, s: Passed, op: Operation) -> Next
-    ensures { Passes policy.now s op result }
+pub fn serve(policy: &Policy, s: Passed, op: Operation) -> Result<Next, Refusal>
+    ensures { Passes policy.now s op (leading result) }
 {
-    let number = words::barred(s.depth, op);
-    if number != answers::ACCEPTED {
-        return Next::Refused(number);
-    }
-    match op {
-        Operation::Call(signer) => Next::Down(s.call(policy, signer)),
-        Operation::Return => Next::Up,
-        Operation::Enable(target) => Next::Stay(s.enable(target), DONE),
-        Operation::Disable(target) => Next::Stay(s.disable(target), DONE),
-        Operation::Revert(target) => Next::Stay(s.revert(target), DONE),
-        Operation::Check(target) => Next::Stay(
-            s,
-            answers::verdict_byte(s.check(policy, target), 0),
-        ),
-    }
-}
-
-// Whether the words beside the depth are zero.
-fn nothing(s: Passed) -> bool
-    ensures { result ≡ nothing_in s }
-{
-    if s.signer != 0 {
-        return false;
-    }
-    if s.own != 0 {
-        return false;
-    }
-    s.callers == 0
+    words::barred(s.depth, op)?;
+    Ok(s.led(policy, op))
 }
 
 // Whether no bit is set for a target at n or above, and none of the callers at depth 1: a bottom frame has no caller.
@@ -167,7 +186,7 @@ pub fn valid(policy: &Policy, s: Passed) -> bool
     ensures { result ≡ fits policy.now s }
 {
     if s.depth == 0 {
-        return nothing(s);
+        return s == Passed::fresh();
     }
     if words::DEPTH_MOST < s.depth {
         return false;
@@ -178,9 +197,9 @@ pub fn valid(policy: &Policy, s: Passed) -> bool
     bits_fit(s, policy::targets(policy))
 }
 
-// What refuses an operation on any policy and state: 13, 14, 5 or 6, 7, 8, else 0. The methods above do what is let through.
-pub fn refusal(policy: &Policy, s: Passed, op: Operation) -> u8
-    ensures { result ≡ refused_by policy.now s op }
+// What refuses an operation on any policy and state: 13, 14, 5 or 6, 7, 8. The methods above do what is let through.
+pub fn refusal(policy: &Policy, s: Passed, op: Operation) -> Result<(), Refusal>
+    ensures { number_of result ≡ refused_by policy.now s op }
 {
     policy::refusal_of(policy, valid(policy, s), s.depth, op)
 }

@@ -5,7 +5,7 @@ use Rattle.passed.proofs.valid.Goals as goal
 
 pub returns-then-s-eq0 : goal.returns-then-s-eq0
 unfolding fits
-returns-then-s-eq0 c = rw (eq-eqb _ _ c.if-s-eq0.true) c.nothing.ensures
+returns-then-s-eq0 c = rw (eq-eqb _ _ c.if-s-eq0.true, c.eq.ensures, c.fresh.ensures.exact, eq-eqb _ _ c.if-s-eq0.true)
 
 pub returns-then-s-gt-DEPTH_MOST : goal.returns-then-s-gt-DEPTH_MOST
 unfolding fits
