@@ -42,6 +42,9 @@ abbrev pub page_from : Policy → List ℕ → List ℕ → Report → ℕ → �
 page_from p trace answers r room k = page (line_at p trace answers r) room k (places trace r - k)
 
 -- the same of a run as the program has it
+abbrev pub run_places : Run → ℕ
+run_places run = places run.trace.now (report_of run.report)
+
 abbrev pub run_line : Run → ℕ → List ℕ
 run_line run k = line_at run.policy.now run.trace.now run.answers.now (report_of run.report) k
 

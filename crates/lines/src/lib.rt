@@ -18,7 +18,7 @@ use words::{Operation, Word};
 // Room for the longest line: three numbers of at most 20 digits, and "forbidden" between them.
 pub const LINE_MOST: usize = 80;
 
-// A line that is composed. `write!` cannot do it: that a line has room is proved, and `write!` does not say that it succeeds.
+// A line that is composed. It always has room, and `push_str` and `push` ask for a proof of that; `write!` would not say that it succeeds.
 type Line = ArrayString<LINE_MOST>;
 
 // A run that is listed: what it ran, what it answered, and its report.
@@ -40,7 +40,7 @@ pub struct Filled {
 // A number, and the character that ends it.
 fn push_item(line: &mut Line, n: u64, end: char)
     requires ascii { end < 128 }
-    requires room { array_string_len line.old + 21 ≤ 80 }
+    requires room { array_string_len line.old + 21 ≤ LINE_MOST }
     ensures text { line.new.bytes ≡ line.old.bytes ++ item n end }
     ensures len { array_string_len line.new ≤ array_string_len line.old + 21 }
 {

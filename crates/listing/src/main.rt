@@ -4,10 +4,12 @@
 ghost use Rattle.std.specs.Prelude.{◌≤◌, length};
 ghost use Rattle.std.specs.Io.KnownBytes.{Consumes};
 
+use answers::Refusal;
 use lines::{Filled, Run};
 use policy::Policy;
 use std::io;
 use std::io::Read;
+use walk::Walk;
 
 // The longest input, which is also the length of the buffers for input and output.
 const INPUT_MOST: usize = 65536;
@@ -34,9 +36,9 @@ fn more_follows(input: &mut impl Read) -> bool {
 }
 
 // The only line of an input that is refused as a whole.
-fn print_refused(rt: &impl Print, number: u8) -> io::Result<()> {
+fn print_refused(rt: &impl Print, why: Refusal) -> io::Result<()> {
     let mut line = [0u8; lines::LINE_MOST];
-    let len = lines::refused_line(number, 0, &mut line);
+    let len = lines::refused_line(why.into(), &mut line);
     rt.write_all(&line[..len])
 }
 
@@ -57,27 +59,24 @@ fn print_pages(rt: &impl Print, run: &Run<'_>) -> io::Result<()> {
 // Runs the trace, with room for an answer to each word of the longest input.
 fn print_run(rt: &impl Print, policy: &Policy, trace: &[u8]) -> io::Result<()> {
     let mut answers = [0u8; INPUT_MOST / 2];
-    let report = runner::walk_run(policy, trace, &mut answers);
-    print_pages(
-        rt,
-        &Run {
-            policy,
-            trace,
-            answers: &answers,
-            report,
-        },
-    )
+    let report = runner::run::<Walk>(policy, trace, &mut answers);
+    let run = Run {
+        policy,
+        trace,
+        answers: &answers,
+        report,
+    };
+    print_pages(rt, &run)
 }
 
 // The policy, and where it is accepted the run of the trace after it.
 fn print_listing(rt: &impl Print, input: &[u8]) -> io::Result<()> {
     let mut policy = [0u64; policy::WORDS];
     let (head, trace) = input.split_at(policy::cut(input));
-    let number = policy::read(head, &mut policy);
-    if number != answers::ACCEPTED {
-        return print_refused(rt, number);
+    match policy::read(head, &mut policy) {
+        Ok(()) => print_run(rt, &policy, trace),
+        Err(why) => print_refused(rt, why),
     }
-    print_run(rt, &policy, trace)
 }
 
 // An output that takes no more ends the program, and quietly.
@@ -86,7 +85,7 @@ fn main(rt: HostRuntime) {
     let mut buffer = [0u8; INPUT_MOST];
     let input = read_full(&mut stdin, &mut buffer);
     let _ = if input.len() == INPUT_MOST && more_follows(&mut stdin) {
-        print_refused(&rt, answers::LEFT_OVER)
+        print_refused(&rt, Refusal::LeftOver)
     } else {
         print_listing(&rt, input)
     };
