@@ -94,7 +94,6 @@ fn words(policy: &Policy) -> usize
 }
 
 // Whether a frame, by how many are below it, is as number 14 asks.
-#[tactic(auto, unfolding(crate::specs::Fits::frame_fits))]
 fn frame_fits(policy: &Policy, state: &State, frame: u64) -> bool
     requires { frame < 63 }
     ensures { result ≡ frame_fits policy.now state.now frame }
@@ -252,7 +251,8 @@ fn ask(policy: &Policy, state: &State, target: u8) -> Answer
     ensures { Gives (answer_of result) state.now (acts by_record policy.now (Check target) state.now) }
 {
     words::framed(depth(state))?;
-    answers::verdict(granted(policy, state, target), 0)
+    let given = granted(policy, state, target);
+    answers::verdict(given, 0)
 }
 
 // One operation that the caller has decoded.

@@ -14,4 +14,4 @@ returns-in_err-framed c =
 
 pub returns : goal.returns
 unfolding barred
-returns c = rw (← c.depth.ensures, ← c.in_ok-framed.ensures, ← c.granted.ensures, c.verdict.ensures) (gives refl refl)
+returns c = rw (← c.depth.ensures, ← c.in_ok-framed.ensures, ← c.granted-given.ensures, c.verdict.ensures) (gives refl refl)
