@@ -19,9 +19,6 @@ use Rattle.beliefs.proofs.Lists.{each_ext, each_sum, part_below}
 
 -- the rows are all that follows a policy's first three words
 module _ (p : List ℕ) (h : length p ≡ 35) where
-  rows : List ℕ
-  rows = take 32 (drop 3 p)
-
   rows_are : take 32 (drop 3 p) ≡ drop 3 p
   rows_are = take_all 32 (drop 3 p) (omega (arith, length-drop 3 p))
 
