@@ -1,15 +1,15 @@
 // Derivations over a policy, a walk state and a target: the checker, which goes by the steps alone, and the writer.
 #![tactic(auto)]
 
-ghost use Rattle.std.specs.Prelude.{◌≡◌, false, cond, not, ◌&&◌, List, [], ◌+◌, ◌*◌, ◌≤◌, ◌<◌, take, length};
+ghost use Rattle.std.specs.Prelude.{◌≡◌, false, cond, not, List, [], ◌+◌, ◌*◌, ◌≤◌, ◌<◌, take, length};
 ghost use Rattle.std.proofs.Math.Option.{some, none};
 ghost use Rattle.std.proofs.lemmas.List.Edits.{sets};
 ghost use Rattle.bits.specs.Bit.{bit};
 ghost use Rattle.beliefs.specs.declared.Marked.{Marked};
-ghost use Rattle.beliefs.specs.Lists.{all, empty};
+ghost use Rattle.beliefs.specs.Lists.{all};
 ghost use Rattle.answers.specs.Numbers.{number_of};
 ghost use Rattle.answers.specs.Account.{Reports, Tells, report_of};
-ghost use Rattle.beliefs.specs.Derivation.{may_take, taken, spoken, allowed, at_place, drop_last, rule, place, follow, judge, at_places, ours};
+ghost use Rattle.beliefs.specs.Derivation.{may_take, taken, spoken, allowed, at_place, drop_last, rule, follow, judge, at_places, ours};
 ghost use Rattle.walk.specs.Layout.{frames};
 ghost use Rattle.derivation.specs.Rule.{number};
 ghost use Rattle.derivation.specs.Chain.{entries, outcome, Leaves};
@@ -86,8 +86,7 @@ impl Chain {
     {
         may_take(state, target, n as u64).then_some(Chain {
             len: n,
-            spoken: 0,
-            done: 0,
+            ..Chain::default()
         })
     }
 
@@ -194,8 +193,8 @@ fn put_rule(steps: &mut [u8], rule: Rule)
     requires { length steps.old ≤ 64 }
     ensures { steps.new ≡ at_places (number rule) 0 (length steps.old) }
 {
-    for k in 0..steps.len() {
-        steps[k] = rule.at(k as u8);
+    for (k, step) in steps.iter_mut().enumerate() {
+        *step = rule.at(k as u8);
     }
 }
 
