@@ -11,7 +11,7 @@ use Rattle.std.specs.Bool.{MatchBool, then_some}
 use Rattle.std.specs.List.{AllWithin, HoldsAt, range_with_len}
 use Rattle.std.proofs.lemmas.List.FromFn.{length-range_with_len, get_or-range_with_len}
 use lib.ListN.{length, get_or, take}
-use borrow.Author.Tests.{eq-eqb, ne_eqb, le-leb, lt-leb}
+use borrow.Author.Tests.{eq-eqb, ne_eqb, le-leb}
 use Rattle.bits.specs.Bit.{bit, with_bit}
 use Rattle.bits.proofs.Laws.{bit_with, bit_none}
 use Rattle.beliefs.specs.declared.Marked.{Marked}
@@ -174,18 +174,17 @@ module _ (f : Marked → Bool) where
       let b : h.0 < n = rw (length-range_with_len 0 n) at h.1 in
       sym (one_fails e n h.0 l b (rw (get_or-range_with_len 0 n h.0 0 b, zero-add h.0) at (h.2 0)))
 
--- a take, in the order of the code's tests
-module _ (t n : ℕ) (s : List ℕ) where
-  pub take_none : n < 1 → false ≡ may_take t n (frames s)
-  unfolding may_take
-  take_none h = rw (lt-leb 1 n h)
+-- a take, past the test of its count
+pub take_in : (t n : ℕ) (s : List ℕ) → 1 ≤ n → n ≤ depth s
+    → may_take t n (frames s) ≡ (bit (get_or (frames s) (n - 1) nobody).enabled t && all (λ (m : Marked). not (bit m.disabled t)) (take (n - 1) (frames s)))
+unfolding may_take
+take_in t n s some_frame h = rw (le-leb 1 n some_frame, frames_at_length s (depth s), le-leb n (depth s) h)
 
-  module _ (some_frame : 1 ≤ n) where
-    pub take_past : depth s < n → false ≡ may_take t n (frames s)
-    unfolding may_take
-    take_past h = rw (le-leb 1 n some_frame, frames_at_length s (depth s), lt-leb n (depth s) h)
+-- what each rule's function goes by
+pub ruleset rule_0 = (fresh_take, outcome_where)
 
-    pub take_in : n ≤ depth s → may_take t n (frames s)
-        ≡ (bit (get_or (frames s) (n - 1) nobody).enabled t && all (λ (m : Marked). not (bit m.disabled t)) (take (n - 1) (frames s)))
-    unfolding may_take
-    take_in h = rw (le-leb 1 n some_frame, frames_at_length s (depth s), le-leb n (depth s) h)
+pub ruleset rule_1 = (past, spoken_target, spoken_signer, spoken_frame)
+
+pub ruleset rule_2 = (past, allowed_target, allowed_frame, allowed_barred, allowed_signer)
+
+pub ruleset rule_3 = (drop_is, outcome_where)

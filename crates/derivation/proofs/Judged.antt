@@ -17,6 +17,8 @@ use Rattle.beliefs.specs.Lists.{empty}
 use Rattle.answers.specs.Numbers.{not_allowed, not_empty, unless}
 use Rattle.answers.specs.Account.{Account, told, barring}
 use Rattle.answers.proofs.Given.{barring_twice}
+use Rattle.answers.proofs.Numbers.{room}
+use Rattle.answers.proofs.Refusals.{some_number}
 use Rattle.words.specs.declared.Operation.TheVariants.{Check}
 use Rattle.beliefs.specs.Policy.{Policy, Target, refusal_in, refusal_of}
 use Rattle.beliefs.specs.Stack.{walk}
@@ -136,3 +138,10 @@ module _ (p : Policy) (s : List ℕ) (t : Target) where
 
       pub written_here : writing p s t room ≡ shown seen.granted (seen.looked % 64) room
       written_here = written ∙ ap (λ (n : ℕ). shown seen.granted n room) (sym (six_bits p s t seen e))
+
+-- what the checker's loop, the checker and the writer go by
+pub ruleset judging = (refused, onward, ended, some_number)
+
+pub ruleset checked = (check_door, check_judged, some_number)
+
+pub ruleset writes = (write_door, written_here, some_number, room)

@@ -14,7 +14,7 @@ use Rattle.answers.specs.Account.{told}
 use Rattle.beliefs.specs.Policy.{permits}
 use Rattle.beliefs.specs.Derivation.{Entry, frame, signer, target, may_take, taken, spoken, allowed, at_place, drop_from, follow, judge, at_places, ours}
 use Rattle.policy.specs.Read.{Bytes}
-use Rattle.beliefs.proofs.Lists.{sets_more}
+use Rattle.beliefs.proofs.Lists.{put_next, sets_more}
 use Rattle.beliefs.proofs.Policy.{both}
 use Rattle.derivation.proofs.Deciding.{speak, Stands, may_within}
 
@@ -68,6 +68,8 @@ places_whole r l =
     let long : length (at_places r 0 (length l)) ≡ length l = at_places_length r 0 (length l) in
     sets-eq (at_places r 0 (length l)) l 0 (omega arith)
     ∙ rw (drop_of_length-le l {i = 0 + length (at_places r 0 (length l))} (omega arith)) (append-nil (at_places r 0 (length l)))
+
+pub ruleset each_place = (places_whole, places_next, put_next)
 
 -- a part of a buffer that is stored as a whole
 part_put : (l vs : List ℕ) (a k : ℕ) → length vs ≡ k → a + k ≤ length l → put_mid a k l vs ≡ sets l a vs

@@ -1,15 +1,15 @@
 // Derivations over a policy, a walk state and a target: the checker, which goes by the steps alone, and the writer.
 #![tactic(auto)]
 
-ghost use Rattle.std.specs.Prelude.{◌≡◌, false, cond, not, ◌&&◌, List, [], ◌+◌, ◌*◌, ◌≤◌, ◌<◌, take, length};
+ghost use Rattle.std.specs.Prelude.{◌≡◌, false, cond, not, List, [], ◌+◌, ◌*◌, ◌≤◌, ◌<◌, take, length};
 ghost use Rattle.std.proofs.Math.Option.{some, none};
 ghost use Rattle.std.proofs.lemmas.List.Edits.{sets};
 ghost use Rattle.bits.specs.Bit.{bit};
 ghost use Rattle.beliefs.specs.declared.Marked.{Marked};
-ghost use Rattle.beliefs.specs.Lists.{all, empty};
+ghost use Rattle.beliefs.specs.Lists.{all};
 ghost use Rattle.answers.specs.Numbers.{number_of};
 ghost use Rattle.answers.specs.Account.{Reports, Tells, report_of};
-ghost use Rattle.beliefs.specs.Derivation.{may_take, taken, spoken, allowed, at_place, drop_last, rule, place, follow, judge, at_places, ours};
+ghost use Rattle.beliefs.specs.Derivation.{may_take, taken, spoken, allowed, at_place, drop_last, rule, follow, judge, at_places, ours};
 ghost use Rattle.walk.specs.Layout.{frames};
 ghost use Rattle.derivation.specs.Rule.{number};
 ghost use Rattle.derivation.specs.Chain.{entries, outcome, Leaves};
@@ -68,6 +68,7 @@ fn none_disabled(state: &State, target: u8, n: u64) -> bool
 }
 
 // Whether n frames may be taken: the n-th has the target enabled, and none of the first n - 1 has it disabled.
+#[tactic(auto, unfolding(beliefs::specs::Derivation::may_take), using(walk::proofs::Frames::frames_at_length))]
 fn may_take(state: &State, target: u8, n: u64) -> bool
     ensures { result ≡ may_take target n (frames state.now) }
 {
@@ -79,17 +80,18 @@ fn may_take(state: &State, target: u8, n: u64) -> bool
 
 impl Chain {
     // Rule 0: the chain becomes the n newest frames.
+    #[tactic(auto, using(crate::proofs::Entries::rule_0))]
     fn take(state: &State, target: u8, n: u8) -> Option<Self>
         ensures { outcome (frames state.now) result ≡ cond (may_take target n (frames state.now)) (some (taken n (frames state.now))) none }
     {
         may_take(state, target, n as u64).then_some(Chain {
             len: n,
-            spoken: 0,
-            done: 0,
+            ..Chain::default()
         })
     }
 
     // Rule 1: a frame becomes its signer.
+    #[tactic(auto, using(crate::proofs::Entries::rule_1))]
     fn speak(self, place: u8) -> Option<Self>
         requires { place < 64 }
         ensures { Leaves result (λ (ms : List Marked). at_place spoken place (entries ms self)) }
@@ -104,6 +106,7 @@ impl Chain {
     }
 
     // Rule 2: a signer becomes the target, if the policy permits.
+    #[tactic(auto, using(crate::proofs::Entries::rule_2), unfolding(beliefs::specs::Policy::permits))]
     fn permit(self, policy: &Policy, state: &State, target: u8, place: u8) -> Option<Self>
         requires { place < 64 }
         ensures { outcome (frames state.now) result ≡ at_place (allowed policy.now target) place (entries (frames state.now) self) }
@@ -123,6 +126,7 @@ impl Chain {
     }
 
     // Rule 3: the chain's last entry, if it is the target, is dropped.
+    #[tactic(auto, using(crate::proofs::Entries::rule_3))]
     fn drop_last(self) -> Option<Self>
         ensures { Leaves result (λ (ms : List Marked). drop_last (entries ms self)) }
     {
@@ -132,6 +136,7 @@ impl Chain {
 }
 
 // One step: the rule that its byte names, at the place that it names.
+#[tactic(auto, unfolding(beliefs::specs::Derivation::follow))]
 fn follow(policy: &Policy, state: &State, target: u8, step: u8, chain: Chain) -> Option<Chain>
     ensures { outcome (frames state.now) result ≡ follow policy.now (frames state.now) target step (entries (frames state.now) chain) }
 {
@@ -146,6 +151,7 @@ fn follow(policy: &Policy, state: &State, target: u8, step: u8, chain: Chain) ->
 }
 
 // The steps in order, from no chain: 10 with the step's index, 11. From an empty chain only a take is allowed, so where there is a step, one was taken.
+#[tactic(auto, using(crate::proofs::Judged::judging))]
 fn judge(policy: &Policy, state: &State, target: u8, steps: &[u8]) -> Report
     ensures { Tells (report_of result) (judge policy.now (frames state.now) target false 0 [] steps.now) }
 {
@@ -173,6 +179,7 @@ fn barred(policy: &Policy, state: &State, target: u8) -> Result<(), Refusal>
 }
 
 // The number of a derivation's steps, where it is accepted: 13, 14, 6, 7, 10, 11.
+#[tactic(auto, using(crate::proofs::Judged::checked))]
 pub fn check(policy: &Policy, state: &State, target: u8, steps: &[u8]) -> Report
     ensures { Tells (report_of result) (checking policy.now state.now target steps.now) }
 {
@@ -181,16 +188,18 @@ pub fn check(policy: &Policy, state: &State, target: u8, steps: &[u8]) -> Report
 }
 
 // A rule at each place of a chain as long as the buffer.
+#[tactic(auto, using(crate::proofs::Ours::each_place))]
 fn put_rule(steps: &mut [u8], rule: Rule)
     requires { length steps.old ≤ 64 }
     ensures { steps.new ≡ at_places (number rule) 0 (length steps.old) }
 {
-    for k in 0..steps.len() {
-        steps[k] = rule.at(k as u8);
+    for (k, step) in steps.iter_mut().enumerate() {
+        *step = rule.at(k as u8);
     }
 }
 
 // Writes ours at the front of a buffer with room for it. Each rule has a loop of its own, with no test of which rule is next.
+#[tactic(auto, using(crate::proofs::Ours::ours_put))]
 fn write_ours(steps: &mut [u8], n: usize)
     requires { (n < 64) × (3 * n + 1 ≤ length steps.old) }
     ensures { steps.new ≡ sets steps.old 0 (ours n) }
@@ -202,6 +211,7 @@ fn write_ours(steps: &mut [u8], n: usize)
 }
 
 // Writes the derivation for a granted check, and reports the number of its steps: 13, 14, 6, 7, 12, 9.
+#[tactic(auto, using(crate::proofs::Judged::writes))]
 pub fn write(policy: &Policy, state: &State, target: u8, steps: &mut [u8]) -> Report
     ensures { Reports (report_of result) steps.old steps.new
         (writing policy.now state.now target (length steps.old)) }
