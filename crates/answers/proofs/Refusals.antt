@@ -1,15 +1,16 @@
 -- A refusal and its number say the same: no two have one number, and none has 0, by which what is accepted is known. Assumes nothing.
 use mathlib.Core.Path.{◌≡◌, refl, sym, ap, ◌∙◌}
 use Prim.Native.Nat.{ℕ}
-use lib.Dec.{eqb}
-use Rattle.std.specs.Prelude.{Result, Ok, Err, cond, false}
+use lib.Dec.{eqb, leb}
+use Rattle.std.specs.Prelude.{Result, Ok, Err, Bool, cond, true, false}
 use Rattle.answers.specs.declared.Refusal.{Refusal}
 use Rattle.answers.specs.declared.Refusal.TheVariants as refusals
 use Rattle.answers.specs.declared.Stop.{Stop}
 use borrow.Author.Tests.{eq-eqb}
-use Rattle.answers.specs.Numbers.{number, number_of, first}
+use Rattle.answers.specs.Numbers.{number, number_of, unless, given_unless, first}
+use Rattle.answers.proofs.Numbers.{room}
 use Rattle.answers.specs.Answer.{Answer, answer_of}
-use Rattle.answers.specs.Account.{Report, report_of, stopped_at}
+use Rattle.answers.specs.Account.{Report, report_of, stopped_at, short_of}
 
 -- what a number says: accepted where it is that of no refusal
 abbrev pub said : {A : Type 0} → ℕ → A → Result A Refusal
@@ -100,3 +101,11 @@ first_refuses r n m e = rw (← e, some_number r)
 
 pub first_passes : (k n m : ℕ) → 0 ≡ n → k ≡ m → k ≡ first n m
 first_passes k n m e h = rw (eq-eqb n 0 (sym e)) h
+
+-- a test's number is that of what it gives, and where it lets through it holds
+pub unless_number : (holds : Bool) (why : Refusal) (r : Result Unit Refusal) → r ≡ given_unless holds why → number_of r ≡ unless holds (number why)
+unless_number true why r e = ap number_of e
+unless_number false why r e = ap number_of e
+
+pub too_short : (wanted has : ℕ) (why : Refusal) → Err why ≡ given_unless (leb wanted has) refusals.NoRoom → short_of wanted has ≡ number why
+too_short wanted has why e = sym (room wanted has) ∙ sym (unless_number (leb wanted has) refusals.NoRoom (Err why) e)

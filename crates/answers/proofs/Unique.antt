@@ -2,6 +2,9 @@
 use mathlib.Core.Path.{◌≡◌, refl}
 use mathlib.Core.List.{List}
 use Prim.Native.Nat.{ℕ}
+use denote.RattleType.{RattleType}
+use denote.Param.Laws.{Laws}
+use mir.Syntax.{Dict}
 use Rattle.bits.proofs.Unique.{Fixes, one_result, alone}
 use Rattle.std.specs.Prelude.{Result}
 use Rattle.answers.specs.declared.Refusal.{Refusal}
@@ -37,8 +40,8 @@ verdict_byte_unique _ _ _ _ _ _ = alone
 pub refused_unique {ℓ} : {W : Type ℓ} {w : W} {n : ℕ} {r q : Result Unit Refusal} → number_of r ≡ n → number_of q ≡ n → (r ≡ q) × (w ≡ w)
 refused_unique h k = (one_refused (one_result h k), refl)
 
-pub unless_unique : Fixes contracts.unless.ended unless.Reads.Post
-unless_unique _ _ _ _ _ _ = refused_unique
+pub unless_unique : (E : RattleType) (l : Laws E) (d : Dict) → Fixes (contracts.unless.ended E d) (unless.Reads.Post E l d)
+unless_unique _ _ _ _ _ _ _ _ _ h k = (one_result h k, λ i. (tt, (tt, tt)))
 
 -- for every function that reports: the report and what is left in the lent buffer, which is handed over at its place among the parameters
 pub reports_unique {ℓ} : {W : Type ℓ} (place : List ℕ → W) {lent left other : List ℕ} {a : Account} {r q : Report}

@@ -85,6 +85,10 @@ number_of (Err r) = number r
 abbrev pub unless : Bool → ℕ → ℕ
 unless holds n = cond holds 0 n
 
+-- and what is given by it, for whatever reason
+abbrev pub given_unless : {E : Type 0} → Bool → E → Result Unit E
+given_unless holds why = cond holds (Ok tt) (Err why)
+
 -- one test after the other: the first number that refuses, 0 where none does
 abbrev pub first : ℕ → ℕ → ℕ
 first n more = cond (eqb n 0) more n

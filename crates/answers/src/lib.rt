@@ -2,7 +2,7 @@
 #![tactic(auto)]
 
 ghost use Rattle.std.specs.Prelude.{◌≡◌, ◌%◌, Ok};
-ghost use Rattle.answers.specs.Numbers.{number, number_of, unless};
+ghost use Rattle.answers.specs.Numbers.{number, given_unless};
 ghost use Rattle.answers.specs.Answer.{verdict_byte};
 
 // Why something is refused: document 01's numbers for no, in their order.
@@ -86,9 +86,9 @@ pub fn verdict_byte(granted: bool, looked: u64) -> u8
     if granted { 64 + count } else { 128 + count }
 }
 
-// Refused where a test fails.
-pub fn unless(holds: bool, why: Refusal) -> Result<(), Refusal>
-    ensures { number_of result ≡ unless holds (number why) }
+// Refused where a test fails, for whatever reason is given.
+pub fn unless<E: Drop>(holds: bool, why: E) -> Result<(), E>
+    ensures { result ≡ given_unless holds why }
 {
     if holds { Ok(()) } else { Err(why) }
 }

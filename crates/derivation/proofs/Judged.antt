@@ -18,7 +18,7 @@ use Rattle.answers.specs.Numbers.{not_allowed, not_empty, unless}
 use Rattle.answers.specs.Account.{Account, told, barring}
 use Rattle.answers.proofs.Given.{barring_twice}
 use Rattle.answers.proofs.Numbers.{room}
-use Rattle.answers.proofs.Refusals.{some_number}
+use Rattle.answers.proofs.Refusals.{some_number, unless_number, too_short}
 use Rattle.words.specs.declared.Operation.TheVariants.{Check}
 use Rattle.beliefs.specs.Policy.{Policy, Target, refusal_in, refusal_of}
 use Rattle.beliefs.specs.Stack.{walk}
@@ -144,4 +144,4 @@ pub ruleset judging = (refused, onward, ended, some_number)
 
 pub ruleset checked = (check_door, check_judged, some_number)
 
-pub ruleset writes = (write_door, written_here, some_number, room)
+pub ruleset writes = (write_door, written_here, some_number, unless_number, too_short, room)

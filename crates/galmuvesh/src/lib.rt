@@ -23,8 +23,8 @@ use record::Record;
 use walk::Walk;
 use words::Operation;
 
-// A passed state, in the words that a host lends.
-pub use passed::State;
+// A passed state, in the words that a host lends, and how many.
+pub use passed::{State, WORDS};
 
 // The number of what may be refused: 0 where it is not.
 fn number(given: Result<(), Refusal>) -> u8

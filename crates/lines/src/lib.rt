@@ -3,14 +3,13 @@
 
 ghost use Rattle.std.specs.Prelude.{◌≡◌, ◌+◌, ◌<◌, ◌≤◌, ◌++◌, length};
 ghost use Rattle.arrayvec.specs.ArrayString.{array_string_len};
-ghost use Rattle.answers.specs.Numbers.{number};
 ghost use Rattle.answers.specs.Account.{report_of};
 ghost use Rattle.lines.specs.Text.{item, start, verdict};
 ghost use Rattle.lines.specs.Text.{policy_line, check_line, end_line, refused_line, last_line, word_line};
-ghost use Rattle.lines.specs.Page.{words_run, run_line, run_page};
+ghost use Rattle.lines.specs.Page.{words_run, report_in, run_line, run_page};
 ghost use Rattle.lines.specs.Promise.{Delivers, Lined, Fills};
 
-use answers::{Report, Stop};
+use answers::Report;
 use arrayvec::ArrayString;
 use policy::Policy;
 use words::{Operation, Word};
@@ -21,13 +20,35 @@ pub const LINE_MOST: usize = 80;
 // A line that is composed. It always has room, and `push_str` and `push` ask for a proof of that; `write!` would not say that it succeeds.
 type Line = ArrayString<LINE_MOST>;
 
+// A run's report as a listing tells it: the number for no, 0 for none, and the figure. A number, and not a `Refusal`: a page answers
+// for every report, that of a host with numbers of its own too.
+#[derive(Clone, Copy)]
+pub struct Told {
+    pub number: u8,
+    pub figure: u64,
+}
+
+impl From<Report> for Told {
+    ghost from_gives = { λ report told. report_in told ≡ report_of report };
+
+    fn from(report: Report) -> Told {
+        match report {
+            Ok(figure) => Told { number: 0, figure },
+            Err(stop) => Told {
+                number: stop.why.number(),
+                figure: stop.at,
+            },
+        }
+    }
+}
+
 // A run that is listed: what it ran, what it answered, and its report.
 #[derive(Clone, Copy)]
 pub struct Run<'a> {
     pub policy: &'a Policy,
     pub trace: &'a [u8],
     pub answers: &'a [u8],
-    pub report: Report,
+    pub report: Told,
 }
 
 // Where the next page begins, and how many bytes this one has.
@@ -99,13 +120,13 @@ fn end_text(words: u64) -> Line
 }
 
 // The last line where a word, or all of it, was refused.
-fn refused_text(stop: Stop) -> Line
-    ensures { result.bytes ≡ refused_line (number stop.why) stop.at }
+fn refused_text(number: u8, index: u64) -> Line
+    ensures { result.bytes ≡ refused_line number index }
 {
     let mut line = Line::new();
     line.push_str("refused ");
-    push_item(&mut line, stop.why.number() as u64, ' ');
-    push_item(&mut line, stop.at, '\n');
+    push_item(&mut line, number as u64, ' ');
+    push_item(&mut line, index, '\n');
     line
 }
 
@@ -143,19 +164,18 @@ pub fn end_line(words: u64, out: &mut [u8]) -> usize
 }
 
 // The last line of a run that was refused, and the only one of a refused policy.
-pub fn refused_line(stop: Stop, out: &mut [u8]) -> usize
-    ensures { Lined result out.old out.new (refused_line (number stop.why) stop.at) }
+pub fn refused_line(number: u8, index: u64, out: &mut [u8]) -> usize
+    ensures { Lined result out.old out.new (refused_line number index) }
 {
-    deliver(&refused_text(stop), out).unwrap_or(0)
+    deliver(&refused_text(number, index), out).unwrap_or(0)
 }
 
 impl Run<'_> {
     // How many words of the trace were run.
     fn words(&self) -> usize
-        ensures { result ≡ words_run self.now.trace.now (report_of self.now.report).figure }
+        ensures { result ≡ words_run self.now.trace.now self.now.report.figure }
     {
-        let figure = self.report.unwrap_or_else(|stop| stop.at);
-        (self.trace.len() / 2).min(figure as usize)
+        (self.trace.len() / 2).min(self.report.figure as usize)
     }
 
     // A word's line where it is a check, nothing where it is not, or is refused. Where the answers are too few the check was not granted.
@@ -177,11 +197,13 @@ impl Run<'_> {
 
     // The last line, by the report.
     fn last(&self) -> Line
-        ensures { result.bytes ≡ last_line (report_of self.now.report).number (report_of self.now.report).figure }
+        ensures { result.bytes ≡ last_line self.now.report.number self.now.report.figure }
     {
-        match self.report {
-            Ok(words) => end_text(words),
-            Err(stop) => refused_text(stop),
+        let Told { number, figure } = self.report;
+        if number == 0 {
+            end_text(figure)
+        } else {
+            refused_text(number, figure)
         }
     }
 

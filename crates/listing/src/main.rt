@@ -38,7 +38,7 @@ fn more_follows(input: &mut impl Read) -> bool {
 // The only line of an input that is refused as a whole.
 fn print_refused(rt: &impl Print, why: Refusal) -> io::Result<()> {
     let mut line = [0u8; lines::LINE_MOST];
-    let len = lines::refused_line(why.into(), &mut line);
+    let len = lines::refused_line(why.number(), 0, &mut line);
     rt.write_all(&line[..len])
 }
 
@@ -64,7 +64,7 @@ fn print_run(rt: &impl Print, policy: &Policy, trace: &[u8]) -> io::Result<()> {
         policy,
         trace,
         answers: &answers,
-        report,
+        report: report.into(),
     };
     print_pages(rt, &run)
 }

@@ -7,7 +7,8 @@ use mathlib.Core.Path.{◌≡◌, refl, sym, ◌∙◌}
 use lib.Dec.{eqb}
 use lib.ListN.{length}
 use Rattle.std.proofs.lemmas.Result.{err_from_is_err_and}
-use Rattle.answers.proofs.Refusals.{some_number}
+use Rattle.std.specs.Prelude.{Ok, Err}
+use Rattle.answers.proofs.Refusals.{some_number, unless_number}
 use Rattle.walk.specs.Layout.{frames}
 use Rattle.derivation.proofs.Judged.{went, went_on, ended}
 use Rattle.derivation.proofs.judge.Goals as goal
@@ -33,11 +34,11 @@ returns-in_err-unless c =
     let p = err_from_is_err_and c.from_residual-in_err-unless.result c.from_residual-in_err-unless.ensures.1 in
     let end = ended a.policy.now (frames a.state.now) a.target a.steps.now c.loop-i.i c.loop-i.chain (omega arith) _
     (tested (goal.at.returns-in_err-unless c).After-unless) in
-    rw (p.1, p.2, c.loop-i.invariant.1 ∙ end, ← c.in_err-unless.ensures, some_number c.in_err-unless.field-0.0) (record { number = refl; figure = refl })
+    rw (p.1, p.2, c.loop-i.invariant.1 ∙ end, ← unless_number _ _ (Err c.in_err-unless.field-0.0) c.in_err-unless.ensures, some_number c.in_err-unless.field-0.0) (record { number = refl; figure = refl })
 
 pub returns : goal.returns
 returns c =
     let a = c.args in
     let end = ended a.policy.now (frames a.state.now) a.target a.steps.now c.loop-i.i c.loop-i.chain (omega arith) _
     (tested (goal.at.returns c).After-unless) in
-    rw (c.loop-i.invariant.1 ∙ end, ← c.in_ok-unless.ensures) (record { number = refl; figure = refl })
+    rw (c.loop-i.invariant.1 ∙ end, ← unless_number _ _ (Ok tt) c.in_ok-unless.ensures) (record { number = refl; figure = refl })

@@ -3,6 +3,7 @@ use mathlib.Core.Logic.{◌⊎◌, ⊎_elim}
 use mathlib.Core.Path.{◌≡◌, sym, ◌∙◌}
 use Prim.Native.Nat.{ℕ}
 use lib.Dec.{ltb}
+use Rattle.answers.proofs.Refusals.{unless_number}
 use Rattle.answers.specs.Numbers.{no_target, unless}
 use Rattle.words.specs.declared.Operation.{Operation}
 use Rattle.words.specs.declared.Operation.TheVariants.{Enable, Disable, Revert, Check}
@@ -17,11 +18,11 @@ aims s n op t = ⊎_elim (λ e. rw e) (⊎_elim (λ e. rw e) (⊎_elim (λ e. rw
 
 pub returns-in-Call : goal.returns-in-Call
 unfolding outside
-returns-in-Call c = rw c.in-Call.is c.unless.ensures
+returns-in-Call c = rw c.in-Call.is (unless_number _ _ _ c.unless.ensures)
 
 pub returns-in-Return : goal.returns-in-Return
 unfolding outside
 returns-in-Return c = rw c.in-Return.is
 
 pub returns-in-Enable : goal.returns-in-Enable
-returns-in-Enable c = c.unless-in-Enable.ensures ∙ sym (aims _ _ _ _ c.in-Enable.is)
+returns-in-Enable c = unless_number _ _ _ c.unless-in-Enable.ensures ∙ sym (aims _ _ _ _ c.in-Enable.is)

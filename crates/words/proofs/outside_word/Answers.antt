@@ -4,6 +4,7 @@ use mathlib.Core.Path.{◌≡◌, refl, ◌∙◌}
 use mathlib.Core.Bool.{Bool, true, false, cond}
 use Prim.Native.Nat.{ℕ}
 use lib.Dec.{eqb, ltb}
+use Rattle.answers.proofs.Refusals.{unless_number}
 use Rattle.answers.specs.Numbers.{no_target, unless}
 use Rattle.words.specs.declared.Operation.TheVariants.{Enable, Disable, Revert, Check}
 use Rattle.words.specs.Words.{word_operation, word_target, operation_of, outside}
@@ -26,7 +27,7 @@ aims s n w a b = rw (a, b) (go (eqb (word_operation w) 2) (eqb (word_operation w
 
 pub returns-then-number-eq0 : goal.returns-then-number-eq0
 unfolding outside operation_of
-returns-then-number-eq0 c = rw (eq-eqb _ _ c.if-number-eq0.true) c.unless.ensures
+returns-then-number-eq0 c = rw (eq-eqb _ _ c.if-number-eq0.true) (unless_number _ _ _ c.unless.ensures)
 
 pub returns-then-number-eq1 : goal.returns-then-number-eq1
 unfolding outside operation_of
@@ -34,4 +35,4 @@ returns-then-number-eq1 c = rw (ne_eqb _ _ c.if-number-eq0.false, eq-eqb _ _ c.i
 
 pub returns : goal.returns
 returns c =
-    c.unless-2.ensures ∙ aims _ _ c.args.word (ne_eqb _ _ c.if-number-eq0.false) (ne_eqb _ _ c.if-number-eq1.false)
+    unless_number _ _ _ c.unless-2.ensures ∙ aims _ _ c.args.word (ne_eqb _ _ c.if-number-eq0.false) (ne_eqb _ _ c.if-number-eq1.false)
