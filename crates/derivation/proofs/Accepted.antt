@@ -29,7 +29,7 @@ weight : List Entry → ℕ
 weight [] = 0
 weight (e ∷ es) = weight_of e + weight es
 
-none_some : {A : Type 0} (x : A) → none ≡ some x → ⊥
+pub none_some : {A : Type 0} (x : A) → none ≡ some x → ⊥
 none_some x h = let z : ◌≡◌ {A = ℕ} 0 1 = cc in omega arith
 
 module _ (p : List ℕ) (t : ℕ) where

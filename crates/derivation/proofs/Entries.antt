@@ -4,8 +4,12 @@ use mathlib.Core.Logic.{◌≢◌}
 use mathlib.Core.Bool.{Bool, true, false, cond, not, ◌&&◌, ◌||◌, and-false}
 use mathlib.Core.Option.{Option, some, none, map}
 use mathlib.Core.List.{List, [], ◌∷◌}
-use Prim.Native.Nat.{ℕ, zero, suc, ◌+◌, ◌-◌, ◌≤◌, ◌<◌}
+use Prim.Native.Nat.{ℕ, zero, suc, ◌-◌, ◌≤◌, ◌<◌}
+use native.Mathlib.Nat.{zero-add}
 use native.Mathlib.Omega.{arith}
+use Rattle.std.specs.Bool.{MatchBool, then_some}
+use Rattle.std.specs.List.{AllWithin, HoldsAt, range_with_len}
+use Rattle.std.proofs.lemmas.List.FromFn.{length-range_with_len, get_or-range_with_len}
 use lib.ListN.{length, get_or, take}
 use borrow.Author.Tests.{eq-eqb, ne_eqb, le-leb, lt-leb}
 use Rattle.bits.specs.Bit.{bit, with_bit}
@@ -15,11 +19,11 @@ use Rattle.beliefs.specs.Lists.{all}
 use Rattle.beliefs.specs.Policy.{permits}
 use Rattle.beliefs.specs.Stack.{nobody}
 use Rattle.beliefs.specs.Derivation.{Entry, frame, signer, target, may_take, taken, spoken, allowed, at_place, is_target, drop_last}
-use Rattle.beliefs.proofs.Policy.{both}
 use Rattle.walk.specs.Layout.{depth, frames}
 use Rattle.walk.proofs.Frames.{frames_at_length}
 use Rattle.derivation.specs.declared.Chain.{Chain}
-use Rattle.derivation.specs.Chain.{entry_at, firsts, entries, with_took}
+use Rattle.derivation.specs.Chain.{entry_at, firsts, entries, outcome}
+use Rattle.derivation.proofs.Deciding.{may_within}
 
 -- a rule at a place of the first n: past them, where it says no, and where it changes that entry alone
 module _ (g : Entry → Option Entry) where
@@ -70,41 +74,41 @@ module _ (ms : List Marked) (ch : Chain) (k : ℕ) where
 
   -- rules 1 and 2 past the chain, and of an entry that they say no to
   module _ (g : Entry → Option Entry) where
-    pub past : ch.len ≤ k → none ≡ with_took ch.taken (at_place g k (entries ms ch))
+    pub past : ch.len ≤ k → none ≡ at_place g k (entries ms ch)
     past h = rw (at_past g ch.len k e h)
 
-    says_no : g (e k) ≡ none → none ≡ with_took ch.taken (at_place g k (entries ms ch))
+    says_no : g (e k) ≡ none → none ≡ at_place g k (entries ms ch)
     says_no h = rw (at_none g ch.len k e h)
 
   -- rule 1
-  pub spoken_target : bit ch.done k ≡ true → none ≡ with_took ch.taken (at_place spoken k (entries ms ch))
+  pub spoken_target : bit ch.done k ≡ true → none ≡ at_place spoken k (entries ms ch)
   spoken_target d = says_no spoken (rw d)
 
-  pub spoken_signer : bit ch.done k ≡ false → bit ch.spoken k ≡ true → none ≡ with_took ch.taken (at_place spoken k (entries ms ch))
+  pub spoken_signer : bit ch.done k ≡ false → bit ch.spoken k ≡ true → none ≡ at_place spoken k (entries ms ch)
   spoken_signer d s = says_no spoken (rw (d, s))
 
   pub spoken_frame : k < 64 → k < ch.len → bit ch.done k ≡ false → bit ch.spoken k ≡ false
-      → some (record { took = ch.taken; chain = firsts (entry_at ms (with_bit ch.spoken k) ch.done) ch.len })
-      ≡ with_took ch.taken (at_place spoken k (entries ms ch))
+      → some (firsts (entry_at ms (with_bit ch.spoken k) ch.done) ch.len)
+      ≡ at_place spoken k (entries ms ch)
   spoken_frame low l d s =
       rw (at_some spoken ch.len k e (entry_at ms (with_bit ch.spoken k) ch.done) l (rw (d, s, bit_same ch.spoken k low))
       (λ i ne. rw (bit_other ch.spoken k i low ne)))
 
   -- rule 2
   module _ (p : List ℕ) (t : ℕ) where
-    pub allowed_target : bit ch.done k ≡ true → none ≡ with_took ch.taken (at_place (allowed p t) k (entries ms ch))
+    pub allowed_target : bit ch.done k ≡ true → none ≡ at_place (allowed p t) k (entries ms ch)
     allowed_target d = says_no (allowed p t) (rw d)
 
-    pub allowed_frame : bit ch.done k ≡ false → bit ch.spoken k ≡ false → none ≡ with_took ch.taken (at_place (allowed p t) k (entries ms ch))
+    pub allowed_frame : bit ch.done k ≡ false → bit ch.spoken k ≡ false → none ≡ at_place (allowed p t) k (entries ms ch)
     allowed_frame d s = says_no (allowed p t) (rw (d, s))
 
     pub allowed_barred : bit ch.done k ≡ false → bit ch.spoken k ≡ true → permits p (get_or ms k nobody).signer t ≡ false
-        → none ≡ with_took ch.taken (at_place (allowed p t) k (entries ms ch))
+        → none ≡ at_place (allowed p t) k (entries ms ch)
     allowed_barred d s q = says_no (allowed p t) (rw (d, s, q))
 
     pub allowed_signer : k < 64 → k < ch.len → bit ch.done k ≡ false → bit ch.spoken k ≡ true → permits p (get_or ms k nobody).signer t ≡ true
-        → some (record { took = ch.taken; chain = firsts (entry_at ms ch.spoken (with_bit ch.done k)) ch.len })
-        ≡ with_took ch.taken (at_place (allowed p t) k (entries ms ch))
+        → some (firsts (entry_at ms ch.spoken (with_bit ch.done k)) ch.len)
+        ≡ at_place (allowed p t) k (entries ms ch)
     allowed_signer low l d s q =
         rw (at_some (allowed p t) ch.len k e (entry_at ms ch.spoken (with_bit ch.done k)) l (rw (d, s, q, bit_same ch.done k low))
         (λ i ne. rw (bit_other ch.done k i low ne)))
@@ -118,24 +122,17 @@ target_bit ms sp dn k = go (bit dn k) (bit sp k)
     go false true = refl
     go false false = refl
 
-module _ (ms : List Marked) (ch : Chain) where
-  pub drop_none : ch.len ≡ 0 → none ≡ with_took ch.taken (drop_last (entries ms ch))
-  drop_none h = rw h
+pub drop_is : (ms : List Marked) (ch : Chain) → 1 ≤ ch.len
+    → drop_last (entries ms ch) ≡ cond (bit ch.done (ch.len - 1)) (some (firsts (entry_at ms ch.spoken ch.done) (ch.len - 1))) none
+drop_is ms ch some_left =
+    let more : ch.len ≡ suc (ch.len - 1) = omega arith in
+    ap (λ (n : ℕ). drop_last (firsts (entry_at ms ch.spoken ch.done) n)) more
+    ∙ drop_last_lem (ch.len - 1) (entry_at ms ch.spoken ch.done) ∙ rw (target_bit ms ch.spoken ch.done (ch.len - 1))
 
-  module _ (some_left : ch.len ≢ 0) where
-    last : drop_last (entries ms ch) ≡ cond (bit ch.done (ch.len - 1)) (some (firsts (entry_at ms ch.spoken ch.done) (ch.len - 1))) none
-    last =
-        let more : ch.len ≡ suc (ch.len - 1) = omega arith in
-        ap (λ (n : ℕ). drop_last (firsts (entry_at ms ch.spoken ch.done) n)) more
-        ∙ drop_last_lem (ch.len - 1) (entry_at ms ch.spoken ch.done) ∙ rw (target_bit ms ch.spoken ch.done (ch.len - 1))
-
-    pub drop_other : bit ch.done (ch.len - 1) ≡ false → none ≡ with_took ch.taken (drop_last (entries ms ch))
-    drop_other d = rw (last, d)
-
-    pub drop_target : bit ch.done (ch.len - 1) ≡ true
-        → some (record { took = ch.taken; chain = firsts (entry_at ms ch.spoken ch.done) (ch.len - 1) })
-        ≡ with_took ch.taken (drop_last (entries ms ch))
-    drop_target d = rw (last, d)
+-- a chain where a test holds
+pub outcome_where : (ms : List Marked) (b : Bool) (ch : Chain) → outcome ms (then_some b ch) ≡ cond b (some (entries ms ch)) none
+outcome_where ms true ch = refl
+outcome_where ms false ch = refl
 
 -- rule 0: a chain just taken, with no place that has spoken
 pub fresh : (n : ℕ) (ms : List Marked) → n ≤ length ms → firsts (entry_at ms 0 0) n ≡ taken n ms
@@ -146,21 +143,36 @@ fresh n ms h = firsts_same n (entry_at ms 0 0) (λ (k : ℕ). frame (get_or ms k
     go (suc n) [] h = absurd (omega arith)
     go (suc n) (m ∷ ms) h = ap (λ (l : List Entry). frame m.signer ∷ l) (go n ms (omega arith))
 
--- every one of the first k, one more at a time; a list's end counts as one that holds
-module _ (f : Marked → Bool) where
-  pub all_more : (k : ℕ) (l : List Marked) → all f (take k l) ≡ true → f (get_or l k nobody) ≡ true → all f (take (k + 1) l) ≡ true
-  all_more k l h q = let e : k + 1 ≡ suc k = omega arith in rw e (go k l h q)
-    where
-      go : (k : ℕ) (l : List Marked) → all f (take k l) ≡ true → f (get_or l k nobody) ≡ true → all f (take (suc k) l) ≡ true
-      go k [] h q = refl
-      go zero (m ∷ l) h q = rw q
-      go (suc k) (m ∷ l) h q = let a = both (f m) h in rw a.0 (go k l a.1 q)
+pub fresh_take : (t n : ℕ) (ms : List Marked)
+    → cond (may_take t n ms) (some (firsts (entry_at ms 0 0) n)) none ≡ cond (may_take t n ms) (some (taken n ms)) none
+fresh_take t n ms = go (may_take t n ms) refl
+  where
+    go : (b : Bool) → may_take t n ms ≡ b → cond b (some (firsts (entry_at ms 0 0) n)) none ≡ cond b (some (taken n ms)) none
+    go true h = ap (λ (l : List Entry). some l) (fresh n ms (may_within t ms n h).1)
+    go false h = refl
 
-  pub all_fails : f nobody ≡ true → (n k : ℕ) (l : List Marked) → k < n → f (get_or l k nobody) ≡ false → false ≡ all f (take n l)
-  all_fails e n k [] h q = cc
-  all_fails e zero k (m ∷ l) h q = absurd (omega arith)
-  all_fails e (suc n) zero (m ∷ l) h q = rw q
-  all_fails e (suc n) (suc k) (m ∷ l) h q = rw (← all_fails e n k l (omega arith) q) (sym (and-false (f m)))
+-- every one of the first n, from what is asked at each place; a list's end counts as one that holds
+module _ (f : Marked → Bool) where
+  all_hold : (n : ℕ) (l : List Marked) → ((k : ℕ) → k < n → f (get_or l k nobody) ≡ true) → all f (take n l) ≡ true
+  all_hold zero l h = refl
+  all_hold (suc n) [] h = refl
+  all_hold (suc n) (m ∷ l) h = rw (h 0 (omega arith)) (all_hold n l (λ k b. h (suc k) (omega arith)))
+
+  one_fails : f nobody ≡ true → (n k : ℕ) (l : List Marked) → k < n → f (get_or l k nobody) ≡ false → all f (take n l) ≡ false
+  one_fails e n k [] h q = cc
+  one_fails e zero k (m ∷ l) h q = absurd (omega arith)
+  one_fails e (suc n) zero (m ∷ l) h q = rw q
+  one_fails e (suc n) (suc k) (m ∷ l) h q = rw (one_fails e n k l (omega arith) q) (and-false (f m))
+
+  pub all_asked : f nobody ≡ true → (n : ℕ) (l : List Marked) (r : Bool)
+      → MatchBool r (AllWithin (λ (k : ℕ). f (get_or l k nobody) ≡ true) (range_with_len 0 n) 0 (length (range_with_len 0 n)))
+      ((k : ℕ) × (k < length (range_with_len 0 n)) × HoldsAt (λ (k : ℕ). f (get_or l k nobody) ≡ false) (range_with_len 0 n) k)
+      → r ≡ all f (take n l)
+  all_asked e n l true h =
+      sym (all_hold n l (λ k b. rw (get_or-range_with_len 0 n k 0 b, zero-add k) at (h k 0 (omega arith) (rw (length-range_with_len 0 n) b))))
+  all_asked e n l false h =
+      let b : h.0 < n = rw (length-range_with_len 0 n) at h.1 in
+      sym (one_fails e n h.0 l b (rw (get_or-range_with_len 0 n h.0 0 b, zero-add h.0) at (h.2 0)))
 
 -- a take, in the order of the code's tests
 module _ (t n : ℕ) (s : List ℕ) where

@@ -1,13 +1,14 @@
 -- Ours is accepted wherever its take may be made and every frame of it is permitted: each rule goes through the chain place by place. Assumes nothing.
-use mathlib.Core.Path.{◌≡◌, refl, ap, ◌∙◌}
+use mathlib.Core.Path.{◌≡◌, refl, sym, ap, ◌∙◌}
 use mathlib.Core.Bool.{true, false}
 use mathlib.Core.Option.{Option, some, Option-elim}
-use mathlib.Core.List.{List, [], ◌∷◌, ◌++◌, map, append_assoc}
+use mathlib.Core.List.{List, [], ◌∷◌, ◌++◌, map, append_assoc, append-nil}
 use Prim.Native.Nat.{ℕ, zero, suc, ◌+◌, ◌-◌, ◌*◌, ◌/◌, ◌%◌, ◌≤◌, ◌<◌}
 use native.Mathlib.Numerals.{add-one}
 use native.Mathlib.Omega.{arith}
-use lib.ListN.{length, get_or, take, set, replicate, length-append, length-replicate}
-use lib.Seq.{sets, length-take-le}
+use lib.ListN.{length, get_or, take, drop, set, length-set, drop_of_length-le, replicate, length-append, length-replicate}
+use lib.Seq.{sets, sets-eq, length-sets, drop-drop, length-take-le}
+use borrow.Rule.Slice.PartMut.{mid_of, mid_len, put_mid}
 use Rattle.beliefs.specs.declared.Marked.{Marked}
 use Rattle.answers.specs.Account.{told}
 use Rattle.beliefs.specs.Policy.{permits}
@@ -61,19 +62,77 @@ module _ (n : ℕ) (few : n ≤ 63) where
 pub places_next : (r k n : ℕ) → k < n → at_places r k (n - k) ≡ (r * 64 + k) ∷ at_places r (k + 1) (n - (k + 1))
 places_next r k n h = let e : n - k ≡ suc (n - (k + 1)) = omega arith in rw (e, add-one)
 
-pub drops_next : (k n : ℕ) → k < n → replicate {A = ℕ} (n - k) 192 ≡ 192 ∷ replicate (n - (k + 1)) 192
-drops_next k n h = let e : n - k ≡ suc (n - (k + 1)) = omega arith in rw e
+-- a buffer that is as long as what is stored into it
+pub places_whole : (r : ℕ) (l : List ℕ) → sets l 0 (at_places r 0 (length l)) ≡ at_places r 0 (length l)
+places_whole r l =
+    let long : length (at_places r 0 (length l)) ≡ length l = at_places_length r 0 (length l) in
+    sets-eq (at_places r 0 (length l)) l 0 (omega arith)
+    ∙ rw (drop_of_length-le l {i = 0 + length (at_places r 0 (length l))} (omega arith)) (append-nil (at_places r 0 (length l)))
+
+-- a part of a buffer that is stored as a whole
+part_put : (l vs : List ℕ) (a k : ℕ) → length vs ≡ k → a + k ≤ length l → put_mid a k l vs ≡ sets l a vs
+part_put l vs a k e h =
+    rw (drop-drop k a l) (sym (rw e at (sets-eq vs l a (omega arith)) ∙ append_assoc (take a l) vs (drop (a + k) l)))
 
 -- and the four runs in their order
-pub ours_put : (l : List ℕ) (n : ℕ) → sets (sets (sets (set l 0 n) 1 (at_places 1 0 n)) (n + 1) (at_places 2 0 n)) (2 * n + 1) (replicate n 192)
+runs_put : (l : List ℕ) (n : ℕ) → sets (sets (sets (set l 0 n) 1 (at_places 1 0 n)) (n + 1) (at_places 2 0 n)) (2 * n + 1) (replicate n 192)
     ≡ sets l 0 (ours n)
 unfolding ours
-ours_put l n =
+runs_put l n =
     let first : List ℕ = sets (set l 0 n) 1 (at_places 1 0 n) in
     let one : 1 + length (at_places 1 0 n) ≡ n + 1 = omega (arith, at_places_length 1 0 n) in
     let two : n + 1 + length (at_places 2 0 n) ≡ 2 * n + 1 = omega (arith, at_places_length 2 0 n) in
     rw two at (sets_more first (n + 1) (at_places 2 0 n) (replicate n 192))
     ∙ rw one at (sets_more (set l 0 n) 1 (at_places 1 0 n) (at_places 2 0 n ++ replicate n 192))
+
+-- each stored as a whole into a part of the buffer, as long as the part is
+module _ (l one two drops : List ℕ) (n first : ℕ) (room : 3 * n + 1 ≤ length l) where
+  abbrev begun : List ℕ
+  begun = set l 0 first
+
+  abbrev with_one : List ℕ
+  with_one = put_mid 1 (n + 1 - 1) begun one
+
+  abbrev with_two : List ℕ
+  with_two = put_mid (n + 1) (2 * n + 1 - (n + 1)) with_one two
+
+  module _ (rule_1 : one ≡ at_places 1 0 (length (mid_of 1 (n + 1 - 1) begun)))
+      (rule_2 : two ≡ at_places 2 0 (length (mid_of (n + 1) (2 * n + 1 - (n + 1)) with_one)))
+      (rule_3 : drops ≡ replicate (length (mid_of (2 * n + 1) (3 * n + 1 - (2 * n + 1)) with_two)) 192) where
+    begun_long : length begun ≡ length l
+    begun_long = length-set l 0 first
+
+    one_is : one ≡ at_places 1 0 n
+    one_is = rule_1 ∙ ap (at_places 1 0) (mid_len 1 (n + 1) begun (rw begun_long (omega arith)) ∙ omega arith)
+
+    one_put : with_one ≡ sets begun 1 (at_places 1 0 n)
+    one_put = rw one_is (part_put begun (at_places 1 0 n) 1 (n + 1 - 1) (omega (arith, at_places_length 1 0 n)) (rw begun_long (omega arith)))
+
+    one_long : length with_one ≡ length l
+    one_long = ap length one_put ∙ length-sets begun 1 (at_places 1 0 n) ∙ begun_long
+
+    two_is : two ≡ at_places 2 0 n
+    two_is = rule_2 ∙ ap (at_places 2 0) (mid_len (n + 1) (2 * n + 1) with_one (rw one_long (omega arith)) ∙ omega arith)
+
+    two_put : with_two ≡ sets with_one (n + 1) (at_places 2 0 n)
+    two_put =
+        rw two_is
+        (part_put with_one (at_places 2 0 n) (n + 1) (2 * n + 1 - (n + 1)) (omega (arith, at_places_length 2 0 n)) (rw one_long (omega arith)))
+
+    two_long : length with_two ≡ length l
+    two_long = ap length two_put ∙ length-sets with_one (n + 1) (at_places 2 0 n) ∙ one_long
+
+    drops_are : drops ≡ replicate n 192
+    drops_are =
+        rule_3 ∙ ap (λ (k : ℕ). replicate k 192) (mid_len (2 * n + 1) (3 * n + 1) with_two (rw two_long (omega arith)) ∙ omega arith)
+
+    drops_put : put_mid (2 * n + 1) (3 * n + 1 - (2 * n + 1)) with_two drops ≡ sets with_two (2 * n + 1) (replicate n 192)
+    drops_put =
+        rw drops_are
+        (part_put with_two (replicate n 192) (2 * n + 1) (3 * n + 1 - (2 * n + 1)) (omega (arith, length-replicate {A = ℕ} n 192)) (rw two_long (omega arith)))
+
+    pub ours_put : first ≡ n → put_mid (2 * n + 1) (3 * n + 1 - (2 * n + 1)) with_two drops ≡ sets l 0 (ours n)
+    ours_put rule_0 = drops_put ∙ rw (two_put, one_put, rule_0) (runs_put l n)
 
 -- an entry in the midst of a chain
 at_place_lem : (g : Entry → Option Entry) (before : List Entry) (e x : Entry) (es : List Entry) → g e ≡ some x

@@ -1,2 +1,3 @@
+pub mod Rule
 pub mod Chain
 pub mod Promise

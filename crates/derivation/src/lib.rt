@@ -1,38 +1,62 @@
 // Derivations over a policy, a walk state and a target: the checker, which goes by the steps alone, and the writer.
 #![tactic(auto)]
 
-ghost use Rattle.std.specs.Prelude.{◌≡◌, true, false, cond, not, ◌&&◌, ◌||◌, List, [], ◌+◌, ◌*◌, ◌≤◌, ◌<◌, eqb, take, length, replicate};
+ghost use Rattle.std.specs.Prelude.{◌≡◌, false, cond, not, ◌&&◌, List, [], ◌+◌, ◌*◌, ◌≤◌, ◌<◌, take, length};
 ghost use Rattle.std.proofs.Math.Option.{some, none};
 ghost use Rattle.std.proofs.lemmas.List.Edits.{sets};
 ghost use Rattle.bits.specs.Bit.{bit};
 ghost use Rattle.beliefs.specs.declared.Marked.{Marked};
-ghost use Rattle.beliefs.specs.Lists.{all};
-ghost use Rattle.answers.specs.Numbers.{not_empty};
-ghost use Rattle.answers.specs.Account.{told, Reports, Tells};
+ghost use Rattle.beliefs.specs.Lists.{all, empty};
+ghost use Rattle.answers.specs.Numbers.{number_of};
+ghost use Rattle.answers.specs.Account.{Reports, Tells, report_of};
 ghost use Rattle.beliefs.specs.Derivation.{may_take, taken, spoken, allowed, at_place, drop_last, rule, place, follow, judge, at_places, ours};
 ghost use Rattle.walk.specs.Layout.{frames};
-ghost use Rattle.derivation.specs.Chain.{entries, outcome, with_took, Leaves};
+ghost use Rattle.derivation.specs.Rule.{number};
+ghost use Rattle.derivation.specs.Chain.{entries, outcome, Leaves};
 ghost use Rattle.derivation.specs.Promise.{barred, checking, writing};
 
-use answers::Report;
+use answers::{Refusal, Report, Stop};
 use policy::Policy;
 use walk::State;
 use words::Operation;
 
-// The chain at a step: whether one was taken, its length, and a bit for each place that has spoken and for each that is T.
+// The rules, in the order of a step's two high bits.
 #[derive(Clone, Copy)]
+enum Rule {
+    Take,
+    Speak,
+    Permit,
+    Drop,
+}
+
+impl Rule {
+    // The rule that a step names.
+    fn of(step: u8) -> Self
+        ensures { number result ≡ rule step }
+    {
+        match step / 64 {
+            0 => Rule::Take,
+            1 => Rule::Speak,
+            2 => Rule::Permit,
+            _ => Rule::Drop,
+        }
+    }
+
+    // The step that names it, and a place.
+    fn at(self, place: u8) -> u8
+        requires { place < 64 }
+        ensures { result ≡ number self * 64 + place }
+    {
+        self as u8 * 64 + place
+    }
+}
+
+// A chain: its length, and a bit for each place that has spoken and for each that is T. It is empty until a take makes one.
+#[derive(Clone, Copy, Default)]
 struct Chain {
-    taken: bool,
     len: u8,
     spoken: u64,
     done: u64,
-}
-
-// What a step makes of a chain.
-#[derive(Clone, Copy)]
-enum Turn {
-    To(Chain),
-    Refused,
 }
 
 // Whether none of the n newest frames has the target disabled.
@@ -40,191 +64,105 @@ fn none_disabled(state: &State, target: u8, n: u64) -> bool
     ensures { result ≡ all (λ (m : Marked). not (bit m.disabled target)) (take n (frames state.now)) }
 {
     let asked = bits::with(0, target);
-    let mut k: u64 = 0;
-    while k < n {
-        let frame = walk::frame(state, k);
-        if bits::meet(frame.disabled, asked) {
-            return false;
-        }
-        k += 1;
-    }
-    true
+    (0..n).all(|k| !bits::meet(walk::frame(state, k).disabled, asked))
 }
 
 // Whether n frames may be taken: the n-th has the target enabled, and none of the first n - 1 has it disabled.
 fn may_take(state: &State, target: u8, n: u64) -> bool
     ensures { result ≡ may_take target n (frames state.now) }
 {
-    if n < 1 {
-        return false;
-    }
-    if walk::depth(state) < n {
-        return false;
-    }
-    let last = walk::frame(state, n - 1);
-    if !bits::has(last.enabled, target) {
-        return false;
-    }
-    none_disabled(state, target, n - 1)
+    1 <= n
+        && n <= walk::depth(state)
+        && bits::has(walk::frame(state, n - 1).enabled, target)
+        && none_disabled(state, target, n - 1)
 }
 
-// Rule 0: the chain becomes the newest frames, and what was there is forgotten.
-fn take(state: &State, target: u8, step: u8) -> Turn
-    ensures { outcome (frames state.now) result
-        ≡ with_took true (cond (may_take target (place step) (frames state.now)) (some (taken (place step) (frames state.now))) none) }
-{
-    let n = step % 64;
-    if !may_take(state, target, n as u64) {
-        return Turn::Refused;
+impl Chain {
+    // Rule 0: the chain becomes the n newest frames.
+    fn take(state: &State, target: u8, n: u8) -> Option<Self>
+        ensures { outcome (frames state.now) result ≡ cond (may_take target n (frames state.now)) (some (taken n (frames state.now))) none }
+    {
+        may_take(state, target, n as u64).then_some(Chain {
+            len: n,
+            spoken: 0,
+            done: 0,
+        })
     }
-    Turn::To(Chain {
-        taken: true,
-        len: n,
-        spoken: 0,
-        done: 0,
-    })
-}
 
-// Rule 1: a frame becomes its signer.
-fn speak(chain: Chain, step: u8) -> Turn
-    ensures { Leaves result chain.taken (λ (ms : List Marked). at_place spoken (place step) (entries ms chain)) }
-{
-    let k = step % 64;
-    if chain.len <= k {
-        return Turn::Refused;
+    // Rule 1: a frame becomes its signer.
+    fn speak(self, place: u8) -> Option<Self>
+        requires { place < 64 }
+        ensures { Leaves result (λ (ms : List Marked). at_place spoken place (entries ms self)) }
+    {
+        if self.len <= place || bits::has(self.done, place) || bits::has(self.spoken, place) {
+            return None;
+        }
+        Some(Chain {
+            spoken: bits::with(self.spoken, place),
+            ..self
+        })
     }
-    if bits::has(chain.done, k) {
-        return Turn::Refused;
-    }
-    if bits::has(chain.spoken, k) {
-        return Turn::Refused;
-    }
-    Turn::To(Chain {
-        taken: chain.taken,
-        len: chain.len,
-        spoken: bits::with(chain.spoken, k),
-        done: chain.done,
-    })
-}
 
-// Rule 2: a signer becomes the target, if the policy permits.
-fn permit(policy: &Policy, state: &State, target: u8, chain: Chain, step: u8) -> Turn
-    ensures { outcome (frames state.now) result
-        ≡ with_took chain.taken (at_place (allowed policy.now target) (place step) (entries (frames state.now) chain)) }
-{
-    let k = step % 64;
-    if chain.len <= k {
-        return Turn::Refused;
+    // Rule 2: a signer becomes the target, if the policy permits.
+    fn permit(self, policy: &Policy, state: &State, target: u8, place: u8) -> Option<Self>
+        requires { place < 64 }
+        ensures { outcome (frames state.now) result ≡ at_place (allowed policy.now target) place (entries (frames state.now) self) }
+    {
+        if self.len <= place || bits::has(self.done, place) || !bits::has(self.spoken, place) {
+            return None;
+        }
+        let frame = walk::frame(state, place as u64);
+        // By the word of the target's bit, which is the same at every step: a test of the bit itself would shift each row anew.
+        if !bits::meet(policy::row(policy, frame.signer), bits::with(0, target)) {
+            return None;
+        }
+        Some(Chain {
+            done: bits::with(self.done, place),
+            ..self
+        })
     }
-    if bits::has(chain.done, k) {
-        return Turn::Refused;
-    }
-    if !bits::has(chain.spoken, k) {
-        return Turn::Refused;
-    }
-    let frame = walk::frame(state, k as u64);
-    // By the word of the target's bit, which is the same at every step: a test of the bit itself would shift each row anew.
-    if !bits::meet(policy::row(policy, frame.signer), bits::with(0, target)) {
-        return Turn::Refused;
-    }
-    Turn::To(Chain {
-        taken: chain.taken,
-        len: chain.len,
-        spoken: chain.spoken,
-        done: bits::with(chain.done, k),
-    })
-}
 
-// Rule 3: the chain's last entry, if it is the target, is dropped.
-fn drop_last(chain: Chain) -> Turn
-    ensures { Leaves result chain.taken (λ (ms : List Marked). drop_last (entries ms chain)) }
-{
-    if chain.len == 0 {
-        return Turn::Refused;
+    // Rule 3: the chain's last entry, if it is the target, is dropped.
+    fn drop_last(self) -> Option<Self>
+        ensures { Leaves result (λ (ms : List Marked). drop_last (entries ms self)) }
+    {
+        let last = self.len.checked_sub(1)?;
+        bits::has(self.done, last).then_some(Chain { len: last, ..self })
     }
-    let last = chain.len - 1;
-    if !bits::has(chain.done, last) {
-        return Turn::Refused;
-    }
-    Turn::To(Chain {
-        taken: chain.taken,
-        len: last,
-        spoken: chain.spoken,
-        done: chain.done,
-    })
 }
 
 // One step: the rule that its byte names, at the place that it names.
-fn follow(policy: &Policy, state: &State, target: u8, step: u8, chain: Chain) -> Turn
-    ensures { outcome (frames state.now) result ≡ with_took (chain.taken || eqb (rule step) 0)
-        (follow policy.now (frames state.now) target step (entries (frames state.now) chain)) }
+fn follow(policy: &Policy, state: &State, target: u8, step: u8, chain: Chain) -> Option<Chain>
+    ensures { outcome (frames state.now) result ≡ follow policy.now (frames state.now) target step (entries (frames state.now) chain) }
 {
-    let rule = step / 64;
-    if rule == 0 {
-        return take(state, target, step);
-    }
-    if rule == 1 {
-        return speak(chain, step);
-    }
-    if rule == 2 {
-        return permit(policy, state, target, chain, step);
-    }
-    if step % 64 != 0 {
-        return Turn::Refused;
-    }
-    drop_last(chain)
-}
-
-// After so many steps, all allowed: accepted if a chain was taken and is empty.
-fn conclude(chain: Chain, steps: u64) -> Report
-    ensures { Tells result (cond (chain.taken && eqb chain.len 0) (told 0 steps) (told not_empty 0)) }
-{
-    if !chain.taken {
-        return Report {
-            number: answers::NOT_EMPTY,
-            figure: 0,
-        };
-    }
-    if chain.len != 0 {
-        return Report {
-            number: answers::NOT_EMPTY,
-            figure: 0,
-        };
-    }
-    Report {
-        number: answers::ACCEPTED,
-        figure: steps,
+    let place = step % 64;
+    match Rule::of(step) {
+        Rule::Take => Chain::take(state, target, place),
+        Rule::Speak => chain.speak(place),
+        Rule::Permit => chain.permit(policy, state, target, place),
+        Rule::Drop if place == 0 => chain.drop_last(),
+        Rule::Drop => None,
     }
 }
 
-// The steps in order, from no chain: 10 with the step's index, 11.
+// The steps in order, from no chain: 10 with the step's index, 11. From an empty chain only a take is allowed, so where there is a step, one was taken.
 fn judge(policy: &Policy, state: &State, target: u8, steps: &[u8]) -> Report
-    ensures { Tells result (judge policy.now (frames state.now) target false 0 [] steps.now) }
+    ensures { Tells (report_of result) (judge policy.now (frames state.now) target false 0 [] steps.now) }
 {
-    let mut chain = Chain {
-        taken: false,
-        len: 0,
-        spoken: 0,
-        done: 0,
-    };
-    let mut i: usize = 0;
-    while i < steps.len() {
-        let turn = follow(policy, state, target, steps[i], chain);
-        let Turn::To(next) = turn else {
-            return Report {
-                number: answers::NOT_ALLOWED,
-                figure: i as u64,
-            };
-        };
-        chain = next;
-        i += 1;
+    let mut chain = Chain::default();
+    for (i, step) in steps.iter().enumerate() {
+        chain = follow(policy, state, target, *step, chain).ok_or(Stop {
+            why: Refusal::NotAllowed,
+            at: i as u64,
+        })?;
     }
-    conclude(chain, i as u64)
+    answers::unless(!steps.is_empty() && chain.len == 0, Refusal::NotEmpty)?;
+    Ok(steps.len() as u64)
 }
 
-// What refuses before any step is looked at or written, as it would the check itself: 13, 14, 6, 7, else 0.
-fn barred(policy: &Policy, state: &State, target: u8) -> u8
-    ensures { result ≡ barred policy.now state.now target }
+// What refuses before any step is looked at or written, as it would the check itself: 13, 14, 6, 7.
+fn barred(policy: &Policy, state: &State, target: u8) -> Result<(), Refusal>
+    ensures { number_of result ≡ barred policy.now state.now target }
 {
     policy::refusal_of(
         policy,
@@ -234,38 +172,21 @@ fn barred(policy: &Policy, state: &State, target: u8) -> u8
     )
 }
 
-// Whether a derivation is accepted: 13, 14, 6, 7, 10, 11, else 0 and the number of its steps.
+// The number of a derivation's steps, where it is accepted: 13, 14, 6, 7, 10, 11.
 pub fn check(policy: &Policy, state: &State, target: u8, steps: &[u8]) -> Report
-    ensures { Tells result (checking policy.now state.now target steps.now) }
+    ensures { Tells (report_of result) (checking policy.now state.now target steps.now) }
 {
-    let number = barred(policy, state, target);
-    if number != answers::ACCEPTED {
-        return Report { number, figure: 0 };
-    }
+    barred(policy, state, target)?;
     judge(policy, state, target, steps)
 }
 
-// A rule at each of the first n places, into the buffer from an index on.
-fn put_rule(steps: &mut [u8], at: usize, rule: u8, n: usize)
-    requires { (rule ≤ 2) × (n ≤ 64) × (at + n ≤ length steps.old) }
-    ensures { steps.new ≡ sets steps.old at (at_places rule 0 n) }
+// A rule at each place of a chain as long as the buffer.
+fn put_rule(steps: &mut [u8], rule: Rule)
+    requires { length steps.old ≤ 64 }
+    ensures { steps.new ≡ at_places (number rule) 0 (length steps.old) }
 {
-    let mut k: usize = 0;
-    while k < n {
-        steps[at + k] = rule * 64 + k as u8;
-        k += 1;
-    }
-}
-
-// So many drops, into the buffer from an index on.
-fn put_drops(steps: &mut [u8], at: usize, many: usize)
-    requires { at + many ≤ length steps.old }
-    ensures { steps.new ≡ sets steps.old at (replicate many 192) }
-{
-    let mut k: usize = 0;
-    while k < many {
-        steps[at + k] = 192;
-        k += 1;
+    for k in 0..steps.len() {
+        steps[k] = rule.at(k as u8);
     }
 }
 
@@ -274,38 +195,23 @@ fn write_ours(steps: &mut [u8], n: usize)
     requires { (n < 64) × (3 * n + 1 ≤ length steps.old) }
     ensures { steps.new ≡ sets steps.old 0 (ours n) }
 {
-    steps[0] = n as u8;
-    put_rule(steps, 1, 1, n);
-    put_rule(steps, n + 1, 2, n);
-    put_drops(steps, 2 * n + 1, n);
+    steps[0] = Rule::Take.at(n as u8);
+    put_rule(&mut steps[1..n + 1], Rule::Speak);
+    put_rule(&mut steps[n + 1..2 * n + 1], Rule::Permit);
+    steps[2 * n + 1..3 * n + 1].fill(Rule::Drop.at(0));
 }
 
-// Writes the derivation for a granted check: 13, 14, 6, 7, 12, 9, else 0 and the number of its steps.
+// Writes the derivation for a granted check, and reports the number of its steps: 13, 14, 6, 7, 12, 9.
 pub fn write(policy: &Policy, state: &State, target: u8, steps: &mut [u8]) -> Report
-    ensures { Reports result steps.old steps.new
+    ensures { Reports (report_of result) steps.old steps.new
         (writing policy.now state.now target (length steps.old)) }
 {
-    let number = barred(policy, state, target);
-    if number != answers::ACCEPTED {
-        return Report { number, figure: 0 };
-    }
+    barred(policy, state, target)?;
     let seen = walk::check(policy, state, target);
-    if !seen.granted {
-        return Report {
-            number: answers::FORBIDDEN,
-            figure: 0,
-        };
-    }
+    answers::unless(seen.granted, Refusal::Forbidden)?;
     let n = (seen.looked % 64) as usize;
-    if steps.len() < 3 * n + 1 {
-        return Report {
-            number: answers::NO_ROOM,
-            figure: 0,
-        };
-    }
+    let wanted = 3 * n + 1;
+    answers::unless(wanted <= steps.len(), Refusal::NoRoom)?;
     write_ours(steps, n);
-    Report {
-        number: answers::ACCEPTED,
-        figure: (3 * n + 1) as u64,
-    }
+    Ok(wanted as u64)
 }

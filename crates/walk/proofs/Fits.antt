@@ -15,7 +15,7 @@ use Rattle.bits.proofs.Laws.{below_none, below_nothing, below_or}
 use Rattle.beliefs.specs.Lists.{each}
 use Rattle.beliefs.specs.Policy.{signers, targets}
 use Rattle.beliefs.specs.Stack.{Frame, nobody}
-use Rattle.beliefs.proofs.Lists.{each_ext, each_at, each_of, part_below}
+use Rattle.beliefs.proofs.Lists.{each_ext, each_false, each_at, each_of, part_below}
 use Rattle.beliefs.proofs.Policy.{both}
 use Rattle.walk.specs.Layout.{depth, frame_at}
 use Rattle.walk.specs.Fits.{in_use, unused, fits}
@@ -28,21 +28,20 @@ module _ (p s : List ℕ) where
   none_in_use = sym (below_nothing (targets p))
 
   pub one_in_use : (k marks : ℕ) → each (in_use p s) k ≡ below marks (targets p) → (frame_at s k).signer < signers p
-      → each (in_use p s) (k + 1) ≡ below (bit_or (bit_or marks (frame_at s k).enabled) (frame_at s k).disabled) (targets p)
+      → each (in_use p s) (k + 1) ≡ below (bit_or marks (bit_or (frame_at s k).enabled (frame_at s k).disabled)) (targets p)
   unfolding each in_use
   one_in_use k marks h l =
       rw (
         add-one,
         h,
         lt-ltb _ _ l,
-        below_or (bit_or marks (frame_at s k).enabled) (frame_at s k).disabled (targets p),
-        below_or marks (frame_at s k).enabled (targets p),
+        below_or marks (bit_or (frame_at s k).enabled (frame_at s k).disabled) (targets p),
+        below_or (frame_at s k).enabled (frame_at s k).disabled (targets p),
       )
-      (sym (and_assoc (below marks (targets p)) (below (frame_at s k).enabled (targets p)) (below (frame_at s k).disabled (targets p))))
 
-  pub not_in_use : (k : ℕ) → signers p ≤ (frame_at s k).signer → in_use p s k ≡ false
+  pub one_not_in_use : (k d : ℕ) → k < d → signers p ≤ (frame_at s k).signer → false ≡ each (in_use p s) d
   unfolding in_use
-  not_in_use k l = rw (le-ltb _ _ l)
+  one_not_in_use k d l bad = sym (each_false (in_use p s) d k l (rw (le-ltb _ _ bad)))
 
 -- three words to a frame
 each_three : (f : ℕ → Bool) (n : ℕ) → each f (3 * n) ≡ each (λ k. f (3 * k) && (f (3 * k + 1) && f (3 * k + 2))) n

@@ -1,55 +1,63 @@
--- One turn of the walk: what the newest of the frames left decides, or that the walk goes on below it. Assumes nothing.
-use mathlib.Core.Path.{◌≡◌, sym, ap, ◌∙◌}
-use mathlib.Core.Logic.{◌≢◌}
-use mathlib.Core.Bool.{true, false, cond}
-use mathlib.Core.List.{List, ◌∷◌}
-use Prim.Native.Nat.{ℕ, suc, ◌+◌, ◌-◌}
-use native.Mathlib.Nat.{zero-add, add-zero}
+-- One turn of the walk: the frame above the k others decides, or the walk goes on below it. Assumes nothing.
+use mathlib.Core.Path.{◌≡◌, refl, sym, ap, ◌∙◌}
+use mathlib.Core.Bool.{Bool, true, false, cond}
+use mathlib.Core.List.{List}
+use Prim.Native.Nat.{ℕ, suc, ◌+◌, ◌-◌, ◌≤◌, ◌<◌}
+use native.Mathlib.Nat.{zero-add}
 use native.Mathlib.Omega.{arith}
-use Rattle.bits.specs.Bit.{bit}
-use Rattle.beliefs.specs.declared.Marked.{Marked}
+use Rattle.std.proofs.Common.{Option, Some, None}
 use Rattle.beliefs.specs.declared.Seen.{Seen}
-use Rattle.beliefs.specs.Policy.{permits}
+use Rattle.beliefs.specs.Policy.{Policy}
 use Rattle.beliefs.specs.Stack.{walk, decides, goes_on}
 use Rattle.walk.specs.Layout.{frame_at, frames_at}
+use Rattle.walk.specs.Does.{decided}
 
 -- n frames were looked at before
 abbrev pub after : ℕ → Seen → Seen
 after n v = record { granted = v.granted; looked = n + v.looked }
 
-pub start : (v : Seen) → v ≡ after 0 v
-start v = ap (λ (n : ℕ). record { granted = v.granted; looked = n }) (sym (zero-add v.looked))
+-- what a frame's decision comes to, where v is what the walk below it finds
+abbrev told : Option Bool → Seen → Seen
+told None v = goes_on v
+told (Some granted) v = decides granted
 
-module _ (p s : List ℕ) (t left looked : ℕ) (total : Seen) (inv : total ≡ after looked (walk p t (frames_at s left))) where
-  pub bottom : left ≡ 0 → record { granted = false; looked = looked } ≡ total
+by_decision : (q e d : Bool) (v : Seen)
+    → cond q (cond e (decides true) (cond d (decides false) (goes_on v))) (decides false)
+    ≡ told (cond q (cond e (Some true) (cond d (Some false) None)) (Some false)) v
+by_decision false e d v = refl
+by_decision true true d v = refl
+by_decision true false true v = refl
+by_decision true false false v = refl
+
+module _ (p : Policy) (s : List ℕ) (t d : ℕ) (total : Seen) where
+  -- no frame was looked at
+  pub start : total ≡ walk p t (frames_at s d) → total ≡ after (d - d) (walk p t (frames_at s d))
+  start e = let none : d - d ≡ 0 = omega arith in rw (none, zero-add) e
+
+  -- all were, and none decides
+  pub bottom : (k : ℕ) → k ≤ 0 → total ≡ after (d - k) (walk p t (frames_at s k)) → record { granted = false; looked = d } ≡ total
   unfolding walk
-  bottom e =
-      ap (λ (n : ℕ). record { granted = false; looked = n }) (sym (add-zero looked)) ∙ sym (inv ∙ ap (λ (n : ℕ). after looked (walk p t (frames_at s n))) e)
+  bottom k none_left inv =
+      let e : k ≡ 0 = omega arith in
+      let all : d - 0 + 0 ≡ d = omega arith in
+      sym (inv ∙ ap (λ (n : ℕ). after (d - n) (walk p t (frames_at s n))) e ∙ ap (λ (n : ℕ). record { granted = false; looked = n }) all)
 
-  module _ (more : left ≢ 0) (m : Marked) (newest : m ≡ frame_at s (left - 1)) where
-    turn : total ≡ after looked (cond (permits p m.signer t)
-        (cond (bit m.enabled t) (decides true)
-        (cond (bit m.disabled t) (decides false)
-        (goes_on (walk p t (frames_at s (left - 1))))))
-        (decides false))
+  -- the frame below k decides, or the walk goes on
+  module _ (k : ℕ) (some_left : 0 < k) (few : k ≤ d) (inv : total ≡ after (d - k) (walk p t (frames_at s k))) where
+    turn : total ≡ after (d - k) (told (decided p t (frame_at s (k - 1))) (walk p t (frames_at s (k - 1))))
     unfolding walk
     turn =
-        let e : left ≡ suc (left - 1) = omega arith in
-        inv ∙ ap (λ (n : ℕ). after looked (walk p t (frames_at s n))) e ∙ ap (λ (x : Marked). after looked (walk p t (x ∷ frames_at s (left - 1)))) (sym newest)
+        let e : k ≡ suc (k - 1) = omega arith in
+        inv ∙ ap (λ (n : ℕ). after (d - k) (walk p t (frames_at s n))) e ∙ ap (after (d - k)) (by_decision _ _ _ _)
 
-    pub barred : permits p m.signer t ≡ false → record { granted = false; looked = looked + 1 } ≡ total
-    barred q = sym (rw q at turn)
+    pub decides_here : (granted : Bool) → decided p t (frame_at s (k - 1)) ≡ Some granted → record { granted = granted; looked = d - (k - 1) } ≡ total
+    decides_here granted e =
+        let v : Seen = walk p t (frames_at s (k - 1)) in
+        let more : d - k + 1 ≡ d - (k - 1) = omega arith in
+        sym (turn ∙ ap (λ (x : Option Bool). after (d - k) (told x v)) e ∙ ap (λ (n : ℕ). record { granted = granted; looked = n }) more)
 
-    module _ (allowed : permits p m.signer t ≡ true) where
-      pub enabled : bit m.enabled t ≡ true → record { granted = true; looked = looked + 1 } ≡ total
-      enabled e = sym (rw (allowed, e) at turn)
-
-      module _ (idle : bit m.enabled t ≡ false) where
-        pub disabled : bit m.disabled t ≡ true → record { granted = false; looked = looked + 1 } ≡ total
-        disabled d = sym (rw (allowed, idle, d) at turn)
-
-        pub onward : bit m.disabled t ≡ false → total ≡ after (looked + 1) (walk p t (frames_at s (left - 1)))
-        onward d =
-            let v : Seen = walk p t (frames_at s (left - 1)) in
-            let n : looked + suc v.looked ≡ looked + 1 + v.looked = omega arith in
-            (rw (allowed, idle, d) at turn) ∙ ap (λ (x : ℕ). record { granted = v.granted; looked = x }) n
+    pub onward : decided p t (frame_at s (k - 1)) ≡ None → total ≡ after (d - (k - 1)) (walk p t (frames_at s (k - 1)))
+    onward e =
+        let v : Seen = walk p t (frames_at s (k - 1)) in
+        let more : d - k + suc v.looked ≡ d - (k - 1) + v.looked = omega arith in
+        turn ∙ ap (λ (x : Option Bool). after (d - k) (told x v)) e ∙ ap (λ (n : ℕ). record { granted = v.granted; looked = n }) more

@@ -1,13 +1,12 @@
 -- Each promise fixes its result and the words left: of two that both keep it, one is the other. Assumes nothing.
 use Rattle.bits.proofs.Unique.{Fixes, alone}
-use Rattle.answers.proofs.Unique.{gives_unique, operated_unique}
+use Rattle.answers.proofs.Unique.{gives_unique}
 use Rattle.walk.specs.contracts as contracts
 use Rattle.walk.proofs.depth as depth
 use Rattle.walk.proofs.frame as frame
 use Rattle.walk.proofs.check as check
 use Rattle.walk.proofs.serve as serve
 use Rattle.walk.proofs.valid as valid
-use Rattle.walk.proofs.operate as operate
 
 pub depth_unique : Fixes contracts.depth.ended depth.Reads.Post
 depth_unique _ _ _ _ _ _ = alone
@@ -23,6 +22,3 @@ serve_unique _ _ _ _ _ _ h k = gives_unique (λ w. (tt, (w, (tt, tt)))) h.gives 
 
 pub valid_unique : Fixes contracts.valid.ended valid.Reads.Post
 valid_unique _ _ _ _ _ _ = alone
-
-pub operate_unique : Fixes contracts.operate.ended operate.Reads.Post
-operate_unique _ _ _ _ _ _ h k = operated_unique (λ w b. (tt, (w, (tt, (b, tt))))) h.exact k.exact

@@ -1,13 +1,17 @@
 -- What each operation does to a walk state, where nothing refuses it.
-use Rattle.std.specs.Prelude.{cond, List, ℕ, ◌+◌, ◌-◌, eqb, set}
-use Rattle.bits.specs.Bit.{with_bit, without_bit}
+use Rattle.std.specs.Prelude.{Bool, true, false, cond, Option, Some, None, List, ℕ, ◌+◌, ◌-◌, eqb, set}
+use Rattle.bits.specs.Bit.{bit, with_bit, without_bit}
 use Rattle.answers.specs.Answer.{Moved, done, verdict}
 use Rattle.words.specs.declared.Operation.{Operation}
 use Rattle.words.specs.declared.Operation.TheVariants.{Call, Return, Enable, Disable, Revert, Check}
 use Rattle.beliefs.specs.declared.Marked.{Marked}
-use Rattle.beliefs.specs.Policy.{Policy}
+use Rattle.beliefs.specs.Policy.{Policy, permits}
 use Rattle.beliefs.specs.Stack.{nobody, start_marks, walk}
 use Rattle.walk.specs.Layout.{depth, frame_at, frames, put}
+
+-- what a frame decides of a check, or nothing where the walk goes on below it
+abbrev pub decided : Policy → ℕ → Marked → Option Bool
+decided p t m = cond (permits p m.signer t) (cond (bit m.enabled t) (Some true) (cond (bit m.disabled t) (Some false) None)) (Some false)
 
 -- a new frame above k others: a bottom frame has the marks of its start
 abbrev pub new_frame : Policy → ℕ → ℕ → Marked

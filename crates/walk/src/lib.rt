@@ -1,66 +1,64 @@
 // The walk: frames with marks in a lent state, the operations on them in place, and the check from newest to oldest.
 #![tactic(auto)]
 
-ghost use Rattle.std.specs.Prelude.{◌≡◌, cond, eqb, get_or};
+ghost use Rattle.std.specs.Prelude.{◌≡◌, ℕ, ◌+◌, ◌-◌, cond, eqb, get_or};
+ghost use Rattle.bits.specs.Bit.{with_bit};
 ghost use Rattle.words.specs.declared.Operation.TheVariants.{Call, Check};
-ghost use Rattle.answers.specs.Answer.{done, Gives};
+ghost use Rattle.answers.specs.Answer.{answer_of, done, Gives};
 ghost use Rattle.beliefs.specs.Lists.{each};
 ghost use Rattle.beliefs.specs.Stack.{nobody, start_marks, walk};
-ghost use Rattle.beliefs.specs.Engine.{acts, by_frame, Serve, Operate};
+ghost use Rattle.beliefs.specs.Engine.{acts, by_frame, Serve};
 ghost use Rattle.walk.specs.Layout.{depth, frame_at, frames, put};
-ghost use Rattle.walk.specs.Fits.{in_use, fits};
-ghost use Rattle.walk.specs.Does.{returned_in, remarked, marked_in};
+ghost use Rattle.walk.specs.Fits.{in_use, unused, fits};
+ghost use Rattle.walk.specs.Does.{decided, returned_in, remarked, marked_in};
 ghost use Rattle.walk.specs.Pictures.{by_walk};
 
 use answers::Answer;
 use beliefs::{Marked, Seen};
+use engine::Engine;
 use policy::Policy;
-use words::{Decoded, Operation};
+use words::Operation;
 
 // A state's words: the depth, then 63 frames, bottom first, of 3 words.
 pub const WORDS: usize = 190;
 
 pub type State = [u64; WORDS];
 
+// What is read where there is no frame.
+const NOBODY: Marked = Marked {
+    signer: 0,
+    enabled: 0,
+    disabled: 0,
+};
+
 // The depth. A state that says more than 63 is taken to be full.
 pub fn depth(state: &State) -> u64
     ensures { result ≡ depth state.now }
 {
-    let said = state[0];
-    if said < words::DEPTH_MOST {
-        said
-    } else {
-        words::DEPTH_MOST
-    }
+    state[0].min(words::DEPTH_MOST)
 }
 
 // The frame above k others: zeros where there is no room for one.
+#[tactic(auto, using(crate::proofs::Frames::frame_past), unfolding(crate::specs::Layout::frame_at))]
 fn frame_at(state: &State, k: u64) -> Marked
     ensures { result ≡ frame_at state.now k }
 {
-    // As a slice, so that its length is known.
-    let whole: &[u64] = state;
     if words::DEPTH_MOST <= k {
-        return Marked {
-            signer: 0,
-            enabled: 0,
-            disabled: 0,
-        };
+        return NOBODY;
     }
     let at = (3 * k) as usize;
     Marked {
-        signer: whole[at + 1],
-        enabled: whole[at + 2],
-        disabled: whole[at + 3],
+        signer: state[at + 1],
+        enabled: state[at + 2],
+        disabled: state[at + 3],
     }
 }
 
 // Stores a frame above k others, where there is room for one.
+#[tactic(auto, using(crate::proofs::Frames::put_past))]
 fn set_frame(state: &mut State, k: u64, frame: Marked)
     ensures { state.new ≡ put state.old k frame }
 {
-    // As a slice, so that its length is known.
-    let whole: &[u64] = state;
     if words::DEPTH_MOST <= k {
         return;
     }
@@ -71,66 +69,51 @@ fn set_frame(state: &mut State, k: u64, frame: Marked)
 }
 
 // The frame at a place, 0 at the newest: zeros where there is none.
+#[tactic(auto, using(crate::proofs::Frames::place_past, crate::proofs::Frames::place_in))]
 pub fn frame(state: &State, place: u64) -> Marked
     ensures { result ≡ get_or (frames state.now) place nobody }
 {
     let d = depth(state);
     if d <= place {
-        return Marked {
-            signer: 0,
-            enabled: 0,
-            disabled: 0,
-        };
+        return NOBODY;
     }
     frame_at(state, d - 1 - place)
 }
 
+// What a frame decides of a check: its verdict, or `None` where the walk goes on below it. The target is asked by the word of its bit.
+#[tactic(auto, unfolding(beliefs::specs::Policy::permits))]
+fn decided(policy: &Policy, frame: Marked, asked: u64) -> Option<bool>
+    ensures { (t : ℕ) → asked ≡ with_bit 0 t → result ≡ decided policy.now t frame }
+{
+    if !bits::meet(policy::row(policy, frame.signer), asked) {
+        Some(false)
+    } else if bits::meet(frame.enabled, asked) {
+        Some(true)
+    } else if bits::meet(frame.disabled, asked) {
+        Some(false)
+    } else {
+        None
+    }
+}
+
 // The walk from the newest frame to the oldest: the verdict on a target, and the frames looked at.
+#[tactic(auto, using(crate::proofs::Turn::start, crate::proofs::Turn::bottom, crate::proofs::Turn::decides_here, crate::proofs::Turn::onward))]
 pub fn check(policy: &Policy, state: &State, target: u8) -> Seen
     ensures { result ≡ walk policy.now target (frames state.now) }
 {
     let asked = bits::with(0, target);
-    let mut left = depth(state);
-    let mut looked: u64 = 0;
-    loop {
-        if left == 0 {
-            break Seen {
-                granted: false,
-                looked,
-            };
-        }
-        left -= 1;
-        looked += 1;
-        let frame = frame_at(state, left);
-        if !bits::meet(policy::row(policy, frame.signer), asked) {
-            break Seen {
-                granted: false,
-                looked,
-            };
-        }
-        if bits::meet(frame.enabled, asked) {
-            break Seen {
-                granted: true,
-                looked,
-            };
-        }
-        if bits::meet(frame.disabled, asked) {
-            break Seen {
-                granted: false,
-                looked,
+    let d = depth(state);
+    for k in (0..d).rev() {
+        if let Some(granted) = decided(policy, frame_at(state, k), asked) {
+            return Seen {
+                granted,
+                looked: d - k,
             };
         }
     }
-}
-
-// A frame with other marks.
-fn with_marks(m: Marked, enabled: u64, disabled: u64) -> Marked
-    ensures { result ≡ record { signer = m.signer; enabled = enabled; disabled = disabled } }
-{
-    Marked {
-        signer: m.signer,
-        enabled,
-        disabled,
+    Seen {
+        granted: false,
+        looked: d,
     }
 }
 
@@ -139,31 +122,32 @@ fn remark(op: Operation, m: Marked) -> Marked
     ensures { result ≡ remarked op m }
 {
     match op {
-        Operation::Call(_) => m,
-        Operation::Return => m,
-        Operation::Enable(t) => with_marks(m, bits::with(m.enabled, t), m.disabled),
-        Operation::Disable(t) => with_marks(
-            m,
-            bits::without(m.enabled, t),
-            bits::with(m.disabled, t),
-        ),
-        Operation::Revert(t) => with_marks(m, bits::without(m.enabled, t), m.disabled),
-        Operation::Check(_) => m,
+        Operation::Enable(t) => Marked {
+            enabled: bits::with(m.enabled, t),
+            ..m
+        },
+        Operation::Disable(t) => Marked {
+            enabled: bits::without(m.enabled, t),
+            disabled: bits::with(m.disabled, t),
+            ..m
+        },
+        Operation::Revert(t) => Marked {
+            enabled: bits::without(m.enabled, t),
+            ..m
+        },
+        Operation::Call(_) | Operation::Return | Operation::Check(_) => m,
     }
 }
 
 // Enable, disable or revert by the newest frame: 7.
 fn mark(state: &mut State, op: Operation) -> Answer
-    ensures { Gives result state.new (by_frame by_walk (done (marked_in op state.old)) state.old) }
+    ensures { Gives (answer_of result) state.new (by_frame by_walk (done (marked_in op state.old)) state.old) }
 {
     let d = depth(state);
-    let number = words::framed(d);
-    if number != answers::ACCEPTED {
-        return Answer::refused(number);
-    }
+    words::framed(d)?;
     let frame = remark(op, frame_at(state, d - 1));
     set_frame(state, d - 1, frame);
-    Answer::done()
+    answers::done()
 }
 
 // The enabled marks of a new frame above d others: those of the start at the bottom, else none.
@@ -179,14 +163,12 @@ fn first_marks(policy: &Policy, d: u64) -> u64
 }
 
 // A new newest frame: 8.
+#[tactic(auto, unfolding(words::specs::Words::barred))]
 fn call(policy: &Policy, state: &mut State, signer: u8) -> Answer
-    ensures { Gives result state.new (acts by_walk policy.now (Call signer) state.old) }
+    ensures { Gives (answer_of result) state.new (acts by_walk policy.now (Call signer) state.old) }
 {
     let d = depth(state);
-    let number = words::deeper(d);
-    if number != answers::ACCEPTED {
-        return Answer::refused(number);
-    }
+    words::deeper(d)?;
     let enabled = first_marks(policy, d);
     let frame = Marked {
         signer: signer as u64,
@@ -195,111 +177,96 @@ fn call(policy: &Policy, state: &mut State, signer: u8) -> Answer
     };
     set_frame(state, d, frame);
     state[0] = d + 1;
-    Answer::done()
+    answers::done()
 }
 
 // The newest frame goes, and leaves zeros: 7.
 fn leave(state: &mut State) -> Answer
-    ensures { Gives result state.new (by_frame by_walk (done (returned_in state.old)) state.old) }
+    ensures { Gives (answer_of result) state.new (by_frame by_walk (done (returned_in state.old)) state.old) }
 {
     let d = depth(state);
-    let number = words::framed(d);
-    if number != answers::ACCEPTED {
-        return Answer::refused(number);
-    }
-    let zeros = Marked {
-        signer: 0,
-        enabled: 0,
-        disabled: 0,
-    };
-    set_frame(state, d - 1, zeros);
+    words::framed(d)?;
+    set_frame(state, d - 1, NOBODY);
     state[0] = d - 1;
-    Answer::done()
+    answers::done()
 }
 
 // A check by the newest frame: 7.
+#[tactic(auto, using(crate::proofs::Frames::six_bits), unfolding(words::specs::Words::barred))]
 fn ask(policy: &Policy, state: &State, target: u8) -> Answer
-    ensures { Gives result state.now (acts by_walk policy.now (Check target) state.now) }
+    ensures { Gives (answer_of result) state.now (acts by_walk policy.now (Check target) state.now) }
 {
-    let number = words::framed(depth(state));
-    if number != answers::ACCEPTED {
-        return Answer::refused(number);
-    }
+    words::framed(depth(state))?;
     let seen = check(policy, state, target);
-    Answer::verdict(seen.granted, seen.looked)
+    answers::verdict(seen.granted, seen.looked)
 }
 
 // One operation that the caller has decoded.
 pub fn serve(policy: &Policy, state: &mut State, op: Operation) -> Answer
-    ensures { Serve by_walk policy.now state.old op result state.new }
+    ensures { Serve by_walk policy.now state.old op (answer_of result) state.new }
 {
-    // As a slice, so that its length is known.
-    let whole: &[u64] = state;
     match op {
         Operation::Call(s) => call(policy, state, s),
         Operation::Return => leave(state),
-        Operation::Enable(_) => mark(state, op),
-        Operation::Disable(_) => mark(state, op),
-        Operation::Revert(_) => mark(state, op),
+        Operation::Enable(_) | Operation::Disable(_) | Operation::Revert(_) => mark(state, op),
         Operation::Check(t) => ask(policy, state, t),
     }
 }
 
 // Whether every frame has a signer below S, and marks for targets below N only. One test of their marks together is quicker
 // than one for each.
+#[tactic(auto, using(crate::proofs::Fits::none_in_use, crate::proofs::Fits::one_in_use, crate::proofs::Fits::one_not_in_use))]
 fn frames_fit(policy: &Policy, state: &State) -> bool
     ensures { result ≡ each (in_use policy.now state.now) (depth state.now) }
 {
     let signers = policy::signers(policy);
-    let d = depth(state);
-    let mut marks: u64 = 0;
-    let mut k: u64 = 0;
-    while k < d {
+    let mut marks = 0;
+    for k in 0..depth(state) {
         let frame = frame_at(state, k);
         if signers <= frame.signer {
             return false;
         }
-        marks = marks | frame.enabled | frame.disabled;
-        k += 1;
+        marks |= frame.enabled | frame.disabled;
     }
     bits::fits(marks, policy::targets(policy))
 }
 
+// Whether every word above the frames is zero.
+#[tactic(auto, using(crate::proofs::Fits::room_above))]
+fn unused_above(state: &State) -> bool
+    ensures { result ≡ each (λ k. unused state.now (depth state.now + k)) (63 - depth state.now) }
+{
+    let above = (3 * depth(state) + 1) as usize;
+    bits::all_fit(&state[above..], 0)
+}
+
 // Whether number 14 does not refuse the state.
+#[tactic(auto, unfolding(crate::specs::Fits::fits))]
 pub fn valid(policy: &Policy, state: &State) -> bool
     ensures { result ≡ fits policy.now state.now }
 {
-    // As a slice, so that its length is known.
-    let whole: &[u64] = state;
-    if words::DEPTH_MOST < state[0] {
-        return false;
-    }
-    if !frames_fit(policy, state) {
-        return false;
-    }
-    let above = (3 * depth(state) + 1) as usize;
-    bits::all_fit(&whole[above..WORDS], 0)
+    state[0] <= words::DEPTH_MOST && frames_fit(policy, state) && unused_above(state)
 }
 
-// One operation word: 13, 14, 4, 3, 5 or 6, 7, 8. The answer byte is written only where it is accepted.
-pub fn operate(policy: &Policy, state: &mut State, word: u16, answer: &mut u8) -> u8
-    ensures { Operate by_walk policy.now state.old word answer.old result answer.new state.new }
-{
-    let number = policy::refusal(policy);
-    if number != answers::ACCEPTED {
-        return number;
+// The walk as an engine.
+pub struct Walk;
+
+impl Engine for Walk {
+    type State = State;
+
+    ghost by = { by_walk };
+
+    ghost words = { λ s. s };
+
+    fn fresh() -> State {
+        [0; WORDS]
     }
-    if !valid(policy, state) {
-        return answers::BAD_STATE;
+
+    fn valid(policy: &Policy, state: &State) -> bool {
+        valid(policy, state)
     }
-    let decoded = policy::decode(policy, word, 0);
-    let Decoded::Word(w) = decoded else {
-        return words::number(decoded);
-    };
-    let op = w.op;
-    let done = serve(policy, state, op);
-    if done.number == answers::ACCEPTED {
-        *answer = done.byte;
+
+    fn serve(policy: &Policy, state: &mut State, op: Operation) -> Answer {
+        serve(policy, state, op)
     }
-    done.number
 }

@@ -1,31 +1,64 @@
 -- What is left to judge, from the chain that the steps so far have made.
-use mathlib.Core.Path.{◌≡◌, refl, ◌∙◌}
+use borrow.Author.Tests.{eqb-true, eqb-false}
 use native.Mathlib.Omega.{arith}
+use mathlib.Core.Bool.{◌&&◌}
+use mathlib.Core.Logic.{◌≢◌}
+use mathlib.Core.Path.{◌≡◌, refl, sym, ◌∙◌}
+use lib.Dec.{eqb}
 use lib.ListN.{length}
+use Rattle.std.proofs.lemmas.Result.{err_from_is_err_and}
+use Rattle.answers.specs.declared.Refusal.TheVariants.{NotAllowed}
+use Rattle.answers.proofs.Refusals.{some_number}
 use Rattle.walk.specs.Layout.{frames}
-use Rattle.derivation.proofs.Judged.{at_end, refused, onward}
+use Rattle.derivation.proofs.Judged.{went, went_on, ended, refused, onward}
 use Rattle.derivation.proofs.judge.Goals as goal
+use Rattle.derivation.proofs.judge.Goals.{After-unless, then-not-is_empty, else-not-is_empty}
 
 pub loop-i-init : goal.loop-i-init
-loop-i-init c = (omega arith, refl)
+loop-i-init c = (λ e. c.default-chain.ensures.0, rw c.default-chain.ensures.0)
 
-pub returns-in_default : goal.returns-in_default
-returns-in_default c =
+pub returns-in_err-chain : goal.returns-in_err-chain
+returns-in_err-chain c =
     let a = c.args in
-    let no = refused a.policy.now (frames a.state.now) a.target a.steps.now c.loop-i.i c.loop-i.chain
-    c.loop-i-test.true in
-    rw (c.loop-i.invariant.1 ∙ no (rw c.in_default.is at c.follow-turn.ensures)) (record { number = refl; figure = refl })
+    let p = err_from_is_err_and c.from_residual.result c.from_residual.ensures.1 in
+    let no = refused a.policy.now (frames a.state.now) a.target a.steps.now c.loop-i.i c.loop-i.chain c.loop-i-test.true
+    (rw c.in_err-chain.ensures.ok_part at c.follow.ensures) in
+    let told = rw c.in_err-chain.ensures.ok_part at c.in_err-chain.ensures.value in
+    let stop : c.in_err-chain.field-0.0 ≡ record { why = NotAllowed; at = c.loop-i.i } = cc in
+    rw (p.1, p.2, stop, c.loop-i.invariant.1 ∙ no) (record { number = refl; figure = refl })
 
 pub loop-i-preserved : goal.loop-i-preserved
 loop-i-preserved c =
     let a = c.args in
-    let on = onward a.policy.now (frames a.state.now) a.target a.steps.now c.loop-i.i c.loop-i.chain
-    c.loop-i-test.true in
-    (omega arith, c.loop-i.invariant.1 ∙ on c.in-To.next (rw c.in-To.is at c.follow-turn.ensures))
+    let on = onward a.policy.now (frames a.state.now) a.target a.steps.now c.loop-i.i c.loop-i.chain c.loop-i-test.true c.loop-i.invariant.0
+    c.in_ok-chain.chain (rw c.in_ok-chain.ensures.ok_part at c.follow.ensures) in
+    (λ e. absurd (omega arith), c.loop-i.invariant.1 ∙ on)
+
+-- the test after the loop is the definition's: there was a step, and nothing is left of the chain
+tested : (c : goal.After-unless) → c.if-not-is_empty.unless ≡ (went c.loop-i.i && eqb c.loop-i.chain.len 0)
+tested c =
+    let a = c.args in
+    let e : c.loop-i.i ≡ length a.steps.now = omega arith in
+    elim c.if-not-is_empty.branch [
+      | then-not-is_empty w ↦
+          let some_step : length a.steps.now ≢ 0 = eqb-false _ 0 (sym c.is_empty.ensures ∙ w.if-not-is_empty.true) in
+          w.unless-is ∙ rw (went_on c.loop-i.i (λ z. some_step (sym e ∙ z)))
+      | else-not-is_empty w ↦
+          let none : c.loop-i.i ≡ 0 = e ∙ eqb-true _ 0 (sym c.is_empty.ensures ∙ w.if-not-is_empty.false) in
+          rw (w.unless-is, w.if-not-is_empty.false, none)
+    ]
+
+pub returns-in_err-unless : goal.returns-in_err-unless
+returns-in_err-unless c =
+    let a = c.args in
+    let p = err_from_is_err_and c.from_residual-in_err-unless.result c.from_residual-in_err-unless.ensures.1 in
+    let end = ended a.policy.now (frames a.state.now) a.target a.steps.now c.loop-i.i c.loop-i.chain (omega arith) _
+    (tested (goal.at.returns-in_err-unless c).After-unless) in
+    rw (p.1, p.2, c.loop-i.invariant.1 ∙ end, ← c.in_err-unless.ensures, some_number c.in_err-unless.field-0.0) (record { number = refl; figure = refl })
 
 pub returns : goal.returns
 returns c =
     let a = c.args in
-    let e : c.loop-i.i ≡ length a.steps.now = omega arith in
-    rw (c.loop-i.invariant.1 ∙ at_end a.policy.now (frames a.state.now) a.target a.steps.now c.loop-i.i c.loop-i.chain e)
-    c.conclude.ensures
+    let end = ended a.policy.now (frames a.state.now) a.target a.steps.now c.loop-i.i c.loop-i.chain (omega arith) _
+    (tested (goal.at.returns c).After-unless) in
+    rw (c.loop-i.invariant.1 ∙ end, ← c.in_ok-unless.ensures) (record { number = refl; figure = refl })

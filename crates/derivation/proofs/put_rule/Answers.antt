@@ -1,25 +1,16 @@
 -- What is stored before k and what is still to store from k on are together the rule at each place.
-use native.Mathlib.Nat.{add-zero, sub-zero}
-use native.Mathlib.Omega.{arith}
-use mathlib.Core.Path.{◌≡◌, refl, ◌∙◌}
-use Prim.Native.Nat.{◌-◌}
-use lib.ListN.{length-set}
+use native.Mathlib.Nat.{sub-zero, zero-add}
+use mathlib.Core.Path.{◌∙◌}
+use lib.ListN.{length}
 use Rattle.beliefs.proofs.Lists.{put_next}
-use Rattle.derivation.proofs.Ours.{places_next}
+use Rattle.derivation.specs.Rule.{number}
+use Rattle.derivation.proofs.Ours.{places_whole, places_next}
 use Rattle.derivation.proofs.put_rule.Goals as goal
 
 pub loop-k-init : goal.loop-k-init
-loop-k-init c = (omega arith, refl, rw (add-zero, sub-zero))
+loop-k-init c = rw sub-zero (places_whole (number c.args.rule) c.args.steps.now)
 
 pub loop-k-preserved : goal.loop-k-preserved
 loop-k-preserved c =
-    let at_loop = c.loop-k in
-    let a = c.args in
-    let turn = put_next at_loop.steps a.at at_loop.k _ _ _ (places_next a.rule at_loop.k a.n c.loop-k-test.true) in
-    (omega arith, simp length-set at_loop.invariant.1, turn ∙ at_loop.invariant.2)
-
-pub shape_of-steps : goal.shape_of-steps
-shape_of-steps c = c.loop-k.invariant.1
-
-pub returns : goal.returns
-returns c = let z : c.args.n - c.loop-k.k ≡ 0 = omega arith in rw z at c.loop-k.invariant.2
+    let next = places_next (number c.args.rule) c.loop-k.k (length c.args.steps.now) c.loop-k-test.true in
+    rw c.at.ensures (simp zero-add at (put_next c.loop-k.steps 0 c.loop-k.k _ _ _ next)) ∙ c.loop-k.invariant

@@ -1,48 +1,56 @@
 -- Turned away by a guard, forbidden, no room, or ours at the front.
-use borrow.Author.Tests.{not-true, not-false}
-use mathlib.Core.Path.{◌≡◌, refl, sym, ap, ◌∙◌}
+use mathlib.Core.Path.{refl, sym}
 use lib.ListN.{length}
-use lib.Seq.{length-sets}
-use Rattle.derivation.specs.Promise.{barred}
-use Rattle.derivation.proofs.Judged.{write_barred, write_forbidden, write_short, write_done}
+use Rattle.std.proofs.lemmas.Result.{err_from_is_err_and}
+use Rattle.answers.proofs.Numbers.{room}
+use Rattle.answers.proofs.Refusals.{some_number}
+use Rattle.derivation.proofs.Judged.{write_door, written_here}
 use Rattle.derivation.proofs.write.Goals as goal
-use Rattle.derivation.proofs.write.Goals.{Else-number-ne-ACCEPTED}
 
--- no guard turned it away
-through : (c : goal.Else-number-ne-ACCEPTED) → let a = c.args in barred a.policy.now a.state.now a.target ≡ 0
-through c = sym c.barred-number.ensures ∙ c.if-number-ne-ACCEPTED.false
-
-pub returns-then-number-ne-ACCEPTED : goal.returns-then-number-ne-ACCEPTED
-returns-then-number-ne-ACCEPTED c =
+pub returns-in_err-barred : goal.returns-in_err-barred
+returns-in_err-barred c =
     let a = c.args in
-    rw (write_barred a.policy.now a.state.now a.target _ c.barred-number.ensures c.if-number-ne-ACCEPTED.true (length a.steps.now)) (record {
-      number = refl;
-      figure = refl;
-      buffer = refl;
-    })
-
-pub returns-then-not-seen : goal.returns-then-not-seen
-returns-then-not-seen c =
-    let a = c.args in
-    rw (write_forbidden a.policy.now a.state.now a.target (through (goal.at.returns-then-not-seen c).Else-number-ne-ACCEPTED) _ c.check-seen.ensures
-    (length a.steps.now)
-    (not-true _ c.if-not-seen.true))
+    let p = err_from_is_err_and c.from_residual.result c.from_residual.ensures.1 in
+    rw (p.1, p.2, write_door a.policy.now a.state.now a.target (length a.steps.now), ← c.in_err-barred.ensures, some_number c.in_err-barred.field-0.0)
     (record { number = refl; figure = refl; buffer = refl })
 
-pub returns-then-steps-n : goal.returns-then-steps-n
-returns-then-steps-n c =
+pub returns-in_err-unless : goal.returns-in_err-unless
+returns-in_err-unless c =
     let a = c.args in
-    rw (write_short a.policy.now a.state.now a.target (through (goal.at.returns-then-steps-n c).Else-number-ne-ACCEPTED) _ c.check-seen.ensures
-    (length a.steps.now)
-    (not-false _ c.if-not-seen.false) c.if-steps-n.true)
+    let p = err_from_is_err_and c.from_residual-in_err-unless.result c.from_residual-in_err-unless.ensures.1 in
+    let no = some_number c.in_err-unless.field-0.0 in
+    rw (
+      p.1,
+      p.2,
+      written_here a.policy.now a.state.now a.target (sym c.in_ok-barred.ensures) _ c.check-seen.ensures (length a.steps.now),
+      ← c.in_err-unless.ensures,
+      no,
+      no,
+    )
     (record { number = refl; figure = refl; buffer = refl })
 
-pub shape_of-steps : goal.shape_of-steps
-shape_of-steps c = ap length c.write_ours.ensures ∙ simp length-sets
+pub returns-in_err-unless-2 : goal.returns-in_err-unless-2
+returns-in_err-unless-2 c =
+    let a = c.args in
+    let p = err_from_is_err_and c.from_residual-in_err-unless-2.result c.from_residual-in_err-unless-2.ensures.1 in
+    rw (
+      p.1,
+      p.2,
+      written_here a.policy.now a.state.now a.target (sym c.in_ok-barred.ensures) _ c.check-seen.ensures (length a.steps.now),
+      ← c.in_ok-unless.ensures,
+      ← room _ _,
+      ← c.in_err-unless-2.ensures,
+      some_number c.in_err-unless-2.field-0.0,
+    )
+    (record { number = refl; figure = refl; buffer = refl })
 
 pub returns : goal.returns
 returns c =
     let a = c.args in
-    rw (write_done a.policy.now a.state.now a.target (through (goal.at.returns c).Else-number-ne-ACCEPTED) _ c.check-seen.ensures (length a.steps.now)
-    (not-false _ c.if-not-seen.false) c.if-steps-n.false)
+    rw (
+      written_here a.policy.now a.state.now a.target (sym c.in_ok-barred.ensures) _ c.check-seen.ensures (length a.steps.now),
+      ← c.in_ok-unless.ensures,
+      ← room _ _,
+      ← c.in_ok-unless-2.ensures,
+    )
     (record { number = refl; figure = refl; buffer = c.write_ours.ensures })
