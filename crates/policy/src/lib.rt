@@ -63,7 +63,7 @@ pub fn row(policy: &Policy, signer: u64) -> u64
 }
 
 // The bits of the rows from one up to another, together: two tests of many rows are quicker than one for each. By number,
-// since as parts of a slice, of whose length the compiler knows no bound, five rows of 32 took 134 instructions, and so 108.
+// since as parts of a slice, of whose length the compiler knows no bound, the test of five rows took 134 instructions and not 108.
 fn rows_together(policy: &Policy, from: usize, to: usize) -> u64
     requires { (from ≤ to) × (to ≤ 32) }
     ensures { result ≡ fold bit_or 0 (take (to - from) (drop (3 + from) policy.now)) }
