@@ -6,9 +6,10 @@ use Rattle.std.specs.Prelude.{Result, Ok, Err, cond, false}
 use Rattle.answers.specs.declared.Refusal.{Refusal}
 use Rattle.answers.specs.declared.Refusal.TheVariants as refusals
 use Rattle.answers.specs.declared.Stop.{Stop}
-use Rattle.answers.specs.Numbers.{number, number_of}
+use borrow.Author.Tests.{eq-eqb}
+use Rattle.answers.specs.Numbers.{number, number_of, first}
 use Rattle.answers.specs.Answer.{Answer, answer_of}
-use Rattle.answers.specs.Account.{Report, report_of}
+use Rattle.answers.specs.Account.{Report, report_of, stopped_at}
 
 -- what a number says: accepted where it is that of no refusal
 abbrev pub said : {A : Type 0} → ℕ → A → Result A Refusal
@@ -60,17 +61,21 @@ answer_back (Err r) = said_number r 0
 pub one_answer : {r q : Result ℕ Refusal} → answer_of r ≡ answer_of q → r ≡ q
 one_answer {r} {q} h = sym (answer_back r) ∙ (ap (λ (a : Answer). said a.number a.byte) h ∙ answer_back q)
 
--- at an index
-abbrev stopped : ℕ → Result ℕ Refusal → Result ℕ Stop
-stopped i (Ok k) = Ok k
-stopped i (Err r) = Err (record { why = r; at = i })
-
-report_back : (r : Result ℕ Stop) → stopped (report_of r).figure (said (report_of r).number (report_of r).figure) ≡ r
+report_back : (r : Result ℕ Stop) → stopped_at (report_of r).figure (said (report_of r).number (report_of r).figure) ≡ r
 report_back (Ok k) = refl
-report_back (Err s) = ap (stopped s.at) (said_number s.why s.at)
+report_back (Err s) = ap (stopped_at s.at) (said_number s.why s.at)
 
 pub one_report : {r q : Result ℕ Stop} → report_of r ≡ report_of q → r ≡ q
-one_report {r} {q} h = sym (report_back r) ∙ (ap (λ (a : Report). stopped a.figure (said a.number a.figure)) h ∙ report_back q)
+one_report {r} {q} h = sym (report_back r) ∙ (ap (λ (a : Report). stopped_at a.figure (said a.number a.figure)) h ∙ report_back q)
+
+-- what comes of a stop at an index
+pub stopped_ok : {A : Type 0} (i : ℕ) (r : Result A Refusal) (x : A) → stopped_at i r ≡ Ok x → r ≡ Ok x
+stopped_ok i (Ok y) x e = cc
+stopped_ok i (Err y) x e = cc
+
+pub stopped_err : {A : Type 0} (i : ℕ) (r : Result A Refusal) (s : Stop) → stopped_at i r ≡ Err s → (r ≡ Err s.why) × (s.at ≡ i)
+stopped_err i (Ok y) s e = cc
+stopped_err i (Err y) s e = let same : s ≡ record { why = y; at = i } = cc in (ap Err (sym (ap (λ (t : Stop). t.why) same)), ap (λ (t : Stop). t.at) same)
 
 -- 0 is no refusal's
 pub some_number : (r : Refusal) → eqb (number r) 0 ≡ false
@@ -88,3 +93,10 @@ some_number refusals.NotEmpty = refl
 some_number refusals.Forbidden = refl
 some_number refusals.BadPolicy = refl
 some_number refusals.BadState = refl
+
+-- of tests one after the other, what the first refuses is refused, and what it lets through is the others' to say
+pub first_refuses : (r : Refusal) (n m : ℕ) → number r ≡ n → number r ≡ first n m
+first_refuses r n m e = rw (← e, some_number r)
+
+pub first_passes : (k n m : ℕ) → 0 ≡ n → k ≡ m → k ≡ first n m
+first_passes k n m e h = rw (eq-eqb n 0 (sym e)) h

@@ -12,6 +12,7 @@ use Rattle.answers.specs.Numbers.{number_of}
 use Rattle.answers.proofs.Refusals.{one_refused, one_answer, one_report}
 use Rattle.answers.specs.contracts as contracts
 use Rattle.answers.proofs.Refusal.number as number
+use Rattle.answers.proofs.Refusal.at as at
 use Rattle.answers.proofs.done as done
 use Rattle.answers.proofs.verdict as verdict
 use Rattle.answers.proofs.verdict_byte as verdict_byte
@@ -19,6 +20,9 @@ use Rattle.answers.proofs.unless as unless
 
 pub number_unique : Fixes contracts.Refusal.number.ended number.Reads.Post
 number_unique _ _ _ _ _ _ = alone
+
+pub at_unique : Fixes contracts.Refusal.at.ended at.Reads.Post
+at_unique _ _ _ _ _ _ = alone
 
 pub done_unique : Fixes contracts.done.ended done.Reads.Post
 done_unique _ _ _ _ _ _ = alone

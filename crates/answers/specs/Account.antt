@@ -1,6 +1,7 @@
 -- What a function that reports answers, and what it leaves in the buffer lent to it.
 use Rattle.std.specs.Prelude.{◌≡◌, cond, List, [], ◌++◌, ℕ, eqb, ltb, Result, Ok, Err}
 use Rattle.std.proofs.lemmas.List.Edits.{sets}
+use Rattle.answers.specs.declared.Refusal.{Refusal}
 use Rattle.answers.specs.declared.Stop.{Stop}
 use Rattle.answers.specs.Numbers.{number, no_room}
 
@@ -32,6 +33,11 @@ pub record Report : Type 0 where
 abbrev pub report_of : Result ℕ Stop → Report
 report_of (Ok k) = record { number = 0; figure = k }
 report_of (Err s) = record { number = number s.why; figure = s.at }
+
+-- what is refused at an index stops there
+abbrev pub stopped_at : {A : Type 0} → ℕ → Result A Refusal → Result A Stop
+stopped_at i (Ok x) = Ok x
+stopped_at i (Err r) = Err (record { why = r; at = i })
 
 -- the promise: the report is the account's, and every other byte of the buffer is as it was lent
 pub record Reports (r : Report) (lent left : List ℕ) (a : Account) : Type 0 where

@@ -31,6 +31,16 @@ impl Refusal {
     {
         self as u8
     }
+
+    // The stop at the word or step of an index that it refuses.
+    pub fn at(self, index: usize) -> Stop
+        ensures { result ≡ record { why = self; at = index } }
+    {
+        Stop {
+            why: self,
+            at: index as u64,
+        }
+    }
 }
 
 // What an engine answers to one operation: its answer byte, or why it is refused.

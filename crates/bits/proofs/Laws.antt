@@ -1,6 +1,6 @@
 -- The laws of a bit, each stated once: what every operation on a word does to each of its bits, and what bounds a word. Assumes nothing.
 use mathlib.Core.Path.{◌≡◌, refl, sym, ap, ◌∙◌}
-use mathlib.Core.List.{List}
+use mathlib.Core.List.{List, [], ◌∷◌}
 use mathlib.Core.Bool.{Bool, true, false, cond, not, ◌&&◌, ◌||◌, and-false, and-true, or-false, and_assoc}
 use mathlib.Core.Logic.{◌≢◌}
 use Prim.Native.Nat.{ℕ, zero, suc, ◌+◌, ◌-◌, ◌*◌, ◌/◌, ◌%◌, ◌^◌, ◌≤◌, ◌<◌, min}
@@ -11,11 +11,12 @@ use lib.Bits.{bit_and, bit_or, bit_xor, and_shr, or_shr, xor_shr, and_mod, or_mo
 use lib.Bits.{and_shifted, xor_zero_r, and_zero_r}
 use lib.Pow.{pow_pos, pow-lt, pow_mono, shl_exact, shl-shr, pow-add, shr-shr, ones_split, ones_lt, high, low}
 use lib.Arith.{bin_ind}
-use lib.ListN.{length, get_or, drop, drop_of_length-le}
-use lib.Seq.{drop-cons}
-use native.Mathlib.Numerals.{add-one}
-use native.Mathlib.Decide.{dec_lt}
+use native.Mathlib.Decide.{dec_lt, ℕ_discrete}
 use borrow.Author.Tests.{lt-ltb, le-ltb, ne_eqb, eq-eqb, eqb-true, eqb-false}
+use Rattle.std.specs.Int.{w64, bit_at, bit_not}
+use Rattle.std.specs.List.{fold}
+use Rattle.std.proofs.lemmas.Nat.Bits.{same_from_bits_below, bit_at-lt, bit_at_and, bit_at_xor, bit_at-pow_same, bit_at-pow_other}
+use Rattle.std.proofs.lemmas.Nat.Bits.{bit_at_clear_same, bit_at_clear_other}
 use Rattle.bits.specs.Bit.{bit, with_bit, without_bit, meet, below, all_below, lowest}
 
 -- true is not false
@@ -142,9 +143,23 @@ pub with_out : (w t : ℕ) → 64 ≤ t → w ≡ with_bit w t
 unfolding with_bit
 with_out w t h = rw (le-ltb t 64 h)
 
-pub without_in : (w t : ℕ) → t < 64 → bit_xor w (bit_and w ((1 * 2 ^ t) % 2 ^ 64)) ≡ without_bit w t
+-- the word with its bit t put out, and with what it has of bit t taken from it, have the same bits
+pub without_in : (w t : ℕ) → w < 2 ^ 64 → t < 64 → bit_and w (bit_not w64 ((1 * 2 ^ t) % 2 ^ 64)) ≡ without_bit w t
 unfolding without_bit
-without_in w t h = rw (one_shl t h)
+without_in w t h l =
+    same_from_bits_below 64 kept (bit_xor w (bit_and w (2 ^ t))) (lt_of_le_of_lt (and_le_l w _) h)
+    (xor_lt 64 w (bit_and w (2 ^ t)) h (lt_of_le_of_lt (and_le_l w (2 ^ t)) h)) (λ i k. go i k (ℕ_discrete i t))
+  where
+    kept : ℕ
+    kept = bit_and w (bit_not w64 ((1 * 2 ^ t) % 2 ^ 64))
+
+    taken : (i : ℕ) → bit_at (bit_xor w (bit_and w (2 ^ t))) i ≡ (bit_at w i + min (bit_at w i) (bit_at (2 ^ t) i)) % 2
+    taken i = bit_at_xor w (bit_and w (2 ^ t)) i ∙ rw (bit_at_and w (2 ^ t) i)
+
+    go : (i : ℕ) → i < 64 → Dec (i ≡ t) → bit_at kept i ≡ bit_at (bit_xor w (bit_and w (2 ^ t))) i
+    go i k (yes e) = rw e (bit_at_clear_same w64 w t l ∙ sym (taken t ∙ rw (bit_at-pow_same t) (omega (arith, bit_at-lt w t))))
+    go i k (no ne) =
+        bit_at_clear_other w64 w t l i k ne ∙ sym (taken i ∙ rw (bit_at-pow_other t i ne) (omega (arith, bit_at-lt w i)))
 
 pub without_out : (w t : ℕ) → w < 2 ^ t → w ≡ without_bit w t
 unfolding without_bit
@@ -238,20 +253,14 @@ unfolding below
 below_none zero = refl
 below_none (suc w) = le-ltb (suc w) 1 (omega arith) ∙ sym (ne_eqb (suc w) 0 (λ e. absurd (omega arith)))
 
--- words one by one, with the bits of those before them together
-module _ (ws : List ℕ) (n : ℕ) where
-  pub all_below_start : all_below ws n ≡ (below 0 n && all_below (drop 0 ws) n)
-  all_below_start = rw (below_nothing n)
+-- the words' bits together, after those of a word before them
+below_fold : (a : ℕ) (ws : List ℕ) (n : ℕ) → below (fold bit_or a ws) n ≡ (below a n && all_below ws n)
+unfolding all_below
+below_fold a [] n = sym (and-true (below a n))
+below_fold a (w ∷ ws) n = below_fold (bit_or a w) ws n ∙ rw (below_or a w n) (and_assoc (below a n) (below w n) (all_below ws n))
 
-  pub all_below_more : (together i : ℕ) → i < length ws
-      → (below together n && all_below (drop i ws) n) ≡ (below (bit_or together (get_or ws i 0)) n && all_below (drop (i + 1) ws) n)
-  unfolding all_below
-  all_below_more together i l =
-      rw (drop-cons ws i 0 l, add-one, below_or together (get_or ws i 0) n) (sym (and_assoc (below together n) (below (get_or ws i 0) n) _))
-
-  pub all_below_end : (together i : ℕ) → length ws ≤ i → (below together n && all_below (drop i ws) n) ≡ below together n
-  unfolding all_below
-  all_below_end together i l = rw (drop_of_length-le ws l) (and-true (below together n))
+pub below_together : (ws : List ℕ) (n : ℕ) → below (fold bit_or 0 ws) n ≡ all_below ws n
+below_together ws n = below_fold 0 ws n ∙ rw (below_nothing n)
 
 -- a set meets t alone where t is in it
 pub meet_alone : (w t : ℕ) → w < 2 ^ 64 → meet w (with_bit 0 t) ≡ bit w t

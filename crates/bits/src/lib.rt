@@ -8,7 +8,7 @@ ghost use Rattle.bits.specs.Bit.{bit, with_bit, without_bit, Meets, below, all_b
 pub fn has(w: u64, t: u8) -> bool
     ensures { result ≡ bit w t }
 {
-    if t < 64 { (w >> t) % 2 == 1 } else { false }
+    t < 64 && (w >> t) % 2 == 1
 }
 
 // w with bit t set; w itself where t is 64 or more.
@@ -16,14 +16,14 @@ pub fn has(w: u64, t: u8) -> bool
 pub fn with(w: u64, t: u8) -> u64
     ensures { result ≡ with_bit w t }
 {
-    if t < 64 { w | (1u64 << t) } else { w }
+    if t < 64 { w | (1 << t) } else { w }
 }
 
 // w with bit t cleared.
 pub fn without(w: u64, t: u8) -> u64
     ensures { result ≡ without_bit w t }
 {
-    if t < 64 { w ^ (w & (1u64 << t)) } else { w }
+    if t < 64 { w & !(1 << t) } else { w }
 }
 
 // Whether some bit is set in both. A test of one bit in many words makes the word of that bit once.
@@ -37,29 +37,20 @@ pub fn meet(a: u64, b: u64) -> bool
 pub fn fits(w: u64, n: u64) -> bool
     ensures { result ≡ below w n }
 {
-    if n < 64 { w < (1u64 << n) } else { true }
+    64 <= n || w < (1 << n)
 }
 
 // Whether none of the words has a bit at n or above. One test of their bits together is quicker than one for each.
+#[tactic(auto, using(crate::proofs::Laws::below_together))]
 pub fn all_fit(words: &[u64], n: u64) -> bool
     ensures { result ≡ all_below words.now n }
 {
-    let mut together: u64 = 0;
-    let mut i: usize = 0;
-    while i < words.len() {
-        together = together | words[i];
-        i += 1;
-    }
-    fits(together, n)
+    fits(words.iter().fold(0, |together, word| together | word), n)
 }
 
 // The bits below n: all 64 where n is 64 or more.
 pub fn ones(n: u64) -> u64
     ensures { result ≡ lowest n }
 {
-    if n < 64 {
-        (1u64 << n) - 1
-    } else {
-        0xffff_ffff_ffff_ffff
-    }
+    if n < 64 { (1 << n) - 1 } else { u64::MAX }
 }

@@ -40,14 +40,14 @@ use Rattle.record.proofs.Fits as record_fits
 use Rattle.record.proofs.Kept as record_kept
 use Rattle.record.proofs.Live as record_live'
 use Rattle.passed.specs.Fits.{fits}
-use Rattle.passed.specs.Does.{fresh}
+use Rattle.passed.specs.Does.{passed_in, fresh}
 use Rattle.passed.specs.Pictures.{Framed, Pictures}
 use Rattle.passed.proofs.Fits.{fits_fresh, fits_framed, pictured_fits}
 use Rattle.runner.specs.Equal.{OneVerdict}
 use Rattle.runner.proofs.Equal.{three_runs}
 use Rattle.derivation.specs.Promise.{checking}
 use Rattle.derivation.proofs.Demand.{unbarred}
-use Rattle.galmuvesh.specs.Boundary.{report, passed_in, returns, Moves, Asks}
+use Rattle.galmuvesh.specs.Boundary.{report, returns, Moves, Asks}
 use Rattle.galmuvesh.proofs.Passing as passing
 use Rattle.demands.specs.Exported.{PolicyWrote, Ran, DerivationWrote, DerivationChecked}
 use Rattle.demands.specs.Live.{outcome, asked, Lived, PassedLived, Live, Numbered, Answered, check_word}

@@ -24,11 +24,11 @@ use Rattle.beliefs.proofs.Engine.{step_number, step_does}
 use Rattle.beliefs.proofs.Policy.{let_in_with, not_refused_with, refused_by_lem}
 use Rattle.passed.specs.declared.Passed.{Passed}
 use Rattle.passed.specs.Fits.{fits}
-use Rattle.passed.specs.Does.{refused_by}
+use Rattle.passed.specs.Does.{passed_in, refused_by}
 use Rattle.passed.specs.Pictures.{Pictures}
 use Rattle.passed.proofs.Kept.{fresh_pictures}
 use Rattle.passed.proofs.Live.{through}
-use Rattle.galmuvesh.specs.Boundary.{passed_in, Follows, Moves, Says, Asks}
+use Rattle.galmuvesh.specs.Boundary.{Follows, Moves, Says, Asks}
 use Rattle.demands.specs.Live.{Reached, fresh, moved, asked, after, PassedLived, zeros, call, enable, disable, revert, back, Numbered, Answered}
 
 -- each state's words picture the frames from its own down; the newest first

@@ -16,13 +16,12 @@ use Rattle.beliefs.specs.Policy.{Policy, valid, outside_of}
 use Rattle.beliefs.specs.Stack.{Stack}
 use Rattle.beliefs.specs.Trace.{step}
 use Rattle.beliefs.proofs.Engine.{step_number, step_refused}
-use Rattle.passed.specs.declared.Next.TheVariants.{Refused}
 use Rattle.passed.specs.Fits.{fits}
-use Rattle.passed.specs.Does.{check_of, guarding, led_to, refused_by, operate_of}
+use Rattle.passed.specs.Does.{Refused, passed_in, words_of, check_of, guarding, led_to, refused_by, operate_of}
 use Rattle.passed.specs.Pictures.{Pictures, Goes}
 use Rattle.passed.proofs.Fits.{Fit}
 use Rattle.passed.proofs.Live.{operate_fits, operates}
-use Rattle.galmuvesh.specs.Boundary.{passed_in, words_of, after, returns, Follows, Moves, Says, Asks}
+use Rattle.galmuvesh.specs.Boundary.{after, returns, Follows, Moves, Says, Asks}
 
 -- an operation of the newest frame, on the four words: refused, it leaves words and stack; else the words after it picture the stack after it
 led : (p : Policy) (s : List ℕ) (op : Operation) (st : Stack) → returns op ≡ false → Goes p st (step false p op st) (led_to p (passed_in s) op)

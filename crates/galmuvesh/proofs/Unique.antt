@@ -4,11 +4,10 @@ use mathlib.Core.Path.{◌≡◌}
 use mathlib.Core.List.{List}
 use Prim.Native.Nat.{ℕ}
 use Rattle.bits.proofs.Unique.{Fixes, one_result}
+use Rattle.answers.proofs.Unique.{operated_unique}
 use Rattle.words.specs.declared.Operation.{Operation}
 use Rattle.answers.specs.Account.{Account, Reports}
-use Rattle.policy.proofs.Unique.{read_unique, cut_unique}
-use Rattle.walk.proofs.Unique as walk
-use Rattle.record.proofs.Unique as record'
+use Rattle.policy.proofs.Unique.{cut_unique}
 use Rattle.galmuvesh.specs.Boundary.{report, Moves}
 use Rattle.galmuvesh.specs.contracts as contracts
 use Rattle.galmuvesh.proofs.galmuvesh_policy_read as galmuvesh_policy_read
@@ -28,7 +27,7 @@ use Rattle.galmuvesh.proofs.galmuvesh_derivation_write as galmuvesh_derivation_w
 use Rattle.galmuvesh.proofs.galmuvesh_derivation_check as galmuvesh_derivation_check
 
 pub galmuvesh_policy_read_unique : Fixes contracts.galmuvesh_policy_read.ended galmuvesh_policy_read.Reads.Post
-galmuvesh_policy_read_unique = read_unique
+galmuvesh_policy_read_unique _ _ _ _ _ _ h k = (one_result h.number k.number, λ i. (tt, (one_result h.value k.value i, tt)))
 
 pub galmuvesh_policy_cut_unique : Fixes contracts.galmuvesh_policy_cut.ended galmuvesh_policy_cut.Reads.Post
 galmuvesh_policy_cut_unique = cut_unique
@@ -51,10 +50,10 @@ pub galmuvesh_passed_run_unique : Fixes contracts.galmuvesh_passed_run.ended gal
 galmuvesh_passed_run_unique _ _ _ _ _ _ = reported (λ w f. (tt, (tt, (w, (f, tt)))))
 
 pub galmuvesh_walk_operate_unique : Fixes contracts.galmuvesh_walk_operate.ended galmuvesh_walk_operate.Reads.Post
-galmuvesh_walk_operate_unique = walk.operate_unique
+galmuvesh_walk_operate_unique _ _ _ _ _ _ h k = operated_unique (λ w b. (tt, (w, (tt, (b, tt))))) h.exact k.exact
 
 pub galmuvesh_record_operate_unique : Fixes contracts.galmuvesh_record_operate.ended galmuvesh_record_operate.Reads.Post
-galmuvesh_record_operate_unique = record'.operate_unique
+galmuvesh_record_operate_unique _ _ _ _ _ _ h k = operated_unique (λ w b. (tt, (w, (tt, (b, tt))))) h.exact k.exact
 
 -- the number, and what is left in the four words
 moved {ℓ} : {W : Type ℓ} (place : List ℕ → W) {p s left other : List ℕ} {op : Operation} {r q : ℕ}

@@ -1,5 +1,5 @@
 -- What the C functions promise where the crates below say it in other terms: a report comes in two places, a passed state is four words.
-use Rattle.std.specs.Prelude.{◌≡◌, Bool, true, false, cond, List, [], ◌∷◌, ℕ, eqb, get_or}
+use Rattle.std.specs.Prelude.{◌≡◌, Bool, true, false, cond, List, ℕ, eqb}
 use Rattle.answers.specs.Account.{Report}
 use Rattle.answers.specs.Answer.{Moved, verdict_byte}
 use Rattle.words.specs.declared.Operation.{Operation}
@@ -8,19 +8,12 @@ use Rattle.beliefs.specs.Policy.{Policy, Target, valid, outside_of}
 use Rattle.beliefs.specs.Stack.{Stack}
 use Rattle.beliefs.specs.Trace.{step}
 use Rattle.passed.specs.declared.Passed.{Passed}
-use Rattle.passed.specs.Does.{call_of, enable_of, disable_of, revert_of, check_of, refused_by}
+use Rattle.passed.specs.Does.{passed_in, words_of, call_of, enable_of, disable_of, revert_of, check_of, refused_by}
 use Rattle.passed.specs.Pictures.{Pictures}
 
 -- the number is returned, the figure goes through a pointer
 abbrev pub report : ℕ → ℕ → Report
 report number figure = record { number = number; figure = figure }
-
--- a passed state as its four words
-abbrev pub passed_in : List ℕ → Passed
-passed_in s = record { depth = get_or s 0 0; signer = get_or s 1 0; own = get_or s 2 0; callers = get_or s 3 0 }
-
-abbrev pub words_of : Passed → List ℕ
-words_of s = s.depth ∷ s.signer ∷ s.own ∷ s.callers ∷ []
 
 -- the state after an operation that nothing refuses; a check leaves it as it is, and a return has no form here
 abbrev pub after : Policy → Passed → Operation → Passed

@@ -2,8 +2,10 @@
 // its own name.
 #![tactic(auto)]
 
-ghost use Rattle.std.specs.Prelude.{◌≡◌, true, false, length};
-ghost use Rattle.answers.specs.Account.{Reports, Tells};
+ghost use Rattle.std.specs.Prelude.{◌≡◌, true, false, length, cond, eqb};
+ghost use Rattle.answers.specs.Numbers.{number_of};
+ghost use Rattle.answers.specs.Answer.{answer_of};
+ghost use Rattle.answers.specs.Account.{report_of, Reports, Tells};
 ghost use Rattle.words.specs.declared.Operation.TheVariants.{Call, Enable, Disable, Revert};
 ghost use Rattle.beliefs.specs.Policy as policies;
 ghost use Rattle.beliefs.specs.Trace.{run};
@@ -12,22 +14,63 @@ ghost use Rattle.policy.specs.Read.{PolicyRead, cut_at};
 ghost use Rattle.walk.specs.Pictures.{by_walk};
 ghost use Rattle.record.specs.Pictures.{by_record};
 ghost use Rattle.derivation.specs.Promise.{checking, writing};
-ghost use Rattle.galmuvesh.specs.Boundary.{report, passed_in, words_of, Moves, Asks};
+ghost use Rattle.galmuvesh.specs.Boundary.{report, after, returns, Moves, Asks};
 
+use answers::{Answer, Refusal, Report};
 use passed::Passed;
 use policy::Policy;
+use record::Record;
+use walk::Walk;
 use words::Operation;
 
-// A passed state's words.
-pub const WORDS: usize = 4;
+// A passed state, in the words that a host lends.
+pub use passed::State;
 
-pub type State = [u64; WORDS];
+// The number of what may be refused: 0 where it is not.
+fn number(given: Result<(), Refusal>) -> u8
+    ensures { result ≡ number_of given }
+{
+    match given {
+        Ok(()) => 0,
+        Err(why) => why.number(),
+    }
+}
+
+// The number of a report; its figure goes through a pointer.
+fn told(given: Report, figure: &mut u64) -> u8
+    ensures { report_of given ≡ report result figure.new }
+{
+    match given {
+        Ok(count) => {
+            *figure = count;
+            0
+        }
+        Err(stop) => {
+            *figure = stop.at;
+            stop.why.number()
+        }
+    }
+}
+
+// The number of an answer; its byte goes through a pointer, where the operation is accepted.
+fn answered(given: Answer, answer: &mut u8) -> u8
+    ensures number { result ≡ (answer_of given).number }
+    ensures byte { answer.new ≡ cond (eqb (answer_of given).number 0) (answer_of given).byte answer.old }
+{
+    match given {
+        Ok(byte) => {
+            *answer = byte;
+            0
+        }
+        Err(why) => why.number(),
+    }
+}
 
 // A policy from its bytes.
 pub fn galmuvesh_policy_read(bytes: &[u8], policy: &mut Policy) -> u8
     ensures { PolicyRead bytes.now policy.old result policy.new }
 {
-    policy::read(bytes, policy)
+    number(policy::read(bytes, policy))
 }
 
 // How many bytes at the front of a recording are its policy's.
@@ -42,9 +85,7 @@ pub fn galmuvesh_policy_write(policy: &Policy, bytes: &mut [u8], figure: &mut u6
     ensures { Reports (report result figure.new) bytes.old bytes.new
         (policies.writing policy.now (length bytes.old)) }
 {
-    let report = policy::write(policy, bytes);
-    *figure = report.figure;
-    report.number
+    told(policy::write(policy, bytes), figure)
 }
 
 // A trace from a fresh start, by the walk.
@@ -52,9 +93,7 @@ pub fn galmuvesh_walk_run(policy: &Policy, trace: &[u8], answers: &mut [u8], fig
     ensures { Reports (report result figure.new) answers.old answers.new
         (run true policy.now trace.now (length answers.old)) }
 {
-    let report = runner::walk_run(policy, trace, answers);
-    *figure = report.figure;
-    report.number
+    told(runner::run::<Walk>(policy, trace, answers), figure)
 }
 
 // The same by the belief record.
@@ -67,9 +106,7 @@ pub fn galmuvesh_record_run(
     ensures { Reports (report result figure.new) answers.old answers.new
         (run false policy.now trace.now (length answers.old)) }
 {
-    let report = runner::record_run(policy, trace, answers);
-    *figure = report.figure;
-    report.number
+    told(runner::run::<Record>(policy, trace, answers), figure)
 }
 
 // The same by the passed state.
@@ -82,9 +119,7 @@ pub fn galmuvesh_passed_run(
     ensures { Reports (report result figure.new) answers.old answers.new
         (run false policy.now trace.now (length answers.old)) }
 {
-    let report = runner::passed_run(policy, trace, answers);
-    *figure = report.figure;
-    report.number
+    told(runner::passed_run(policy, trace, answers), figure)
 }
 
 // One operation word on a live walk state.
@@ -96,7 +131,7 @@ pub fn galmuvesh_walk_operate(
 ) -> u8
     ensures { Operate by_walk policy.now state.old word answer.old result answer.new state.new }
 {
-    walk::operate(policy, state, word, answer)
+    answered(engine::operate::<Walk>(policy, state, word), answer)
 }
 
 // The same on a live belief record.
@@ -108,91 +143,73 @@ pub fn galmuvesh_record_operate(
 ) -> u8
     ensures { Operate by_record policy.now state.old word answer.old result answer.new state.new }
 {
-    record::operate(policy, state, word, answer)
+    answered(engine::operate::<Record>(policy, state, word), answer)
 }
 
-// Four words as a passed state.
-fn passed_in(state: &State) -> Passed
-    ensures { result ≡ passed_in state.now }
+// The state of the newest frame after an operation that nothing refuses: a call leads to the callee's.
+fn after(policy: &Policy, s: Passed, op: Operation) -> Passed
+    ensures { result ≡ after policy.now s op }
 {
-    Passed {
-        depth: state[0],
-        signer: state[1],
-        own: state[2],
-        callers: state[3],
+    match op {
+        Operation::Call(signer) => s.call(policy, signer),
+        Operation::Enable(target) => s.enable(target),
+        Operation::Disable(target) => s.disable(target),
+        Operation::Revert(target) => s.revert(target),
+        Operation::Return | Operation::Check(_) => s,
     }
 }
 
-// A passed state into its four words.
-fn put(state: &mut State, s: Passed)
-    ensures { state.new ≡ words_of s }
+// Call, enable, disable or revert on the four words.
+fn moved(policy: &Policy, state: &mut State, op: Operation) -> Result<(), Refusal>
+    requires { returns op ≡ false }
+    ensures { Moves policy.now state.old op (number_of result) state.new }
 {
-    // As a slice, so that its length is known.
-    let whole: &[u64] = state;
-    state[0] = s.depth;
-    state[1] = s.signer;
-    state[2] = s.own;
-    state[3] = s.callers;
+    let s = Passed::from(*state);
+    passed::refusal(policy, s, op)?;
+    *state = State::from(after(policy, s, op));
+    Ok(())
 }
 
 // The state becomes the callee's; the caller keeps its own.
 pub fn galmuvesh_passed_call(policy: &Policy, state: &mut State, signer: u8) -> u8
     ensures { Moves policy.now state.old (Call signer) result state.new }
 {
-    let s = passed_in(state);
-    let number = passed::refusal(policy, s, Operation::Call(signer));
-    if number == answers::ACCEPTED {
-        put(state, s.call(policy, signer));
-    }
-    number
+    number(moved(policy, state, Operation::Call(signer)))
 }
 
 // The frame enables a target.
 pub fn galmuvesh_passed_enable(policy: &Policy, state: &mut State, target: u8) -> u8
     ensures { Moves policy.now state.old (Enable target) result state.new }
 {
-    let s = passed_in(state);
-    let number = passed::refusal(policy, s, Operation::Enable(target));
-    if number == answers::ACCEPTED {
-        put(state, s.enable(target));
-    }
-    number
+    number(moved(policy, state, Operation::Enable(target)))
 }
 
 // The frame disables a target.
 pub fn galmuvesh_passed_disable(policy: &Policy, state: &mut State, target: u8) -> u8
     ensures { Moves policy.now state.old (Disable target) result state.new }
 {
-    let s = passed_in(state);
-    let number = passed::refusal(policy, s, Operation::Disable(target));
-    if number == answers::ACCEPTED {
-        put(state, s.disable(target));
-    }
-    number
+    number(moved(policy, state, Operation::Disable(target)))
 }
 
 // The frame reverts a target.
 pub fn galmuvesh_passed_revert(policy: &Policy, state: &mut State, target: u8) -> u8
     ensures { Moves policy.now state.old (Revert target) result state.new }
 {
-    let s = passed_in(state);
-    let number = passed::refusal(policy, s, Operation::Revert(target));
-    if number == answers::ACCEPTED {
-        put(state, s.revert(target));
-    }
-    number
+    number(moved(policy, state, Operation::Revert(target)))
 }
 
 // The frame checks a target.
 pub fn galmuvesh_passed_check(policy: &Policy, state: &State, target: u8, answer: &mut u8) -> u8
     ensures { Asks policy.now state.now target result answer.old answer.new }
 {
-    let s = passed_in(state);
-    let number = passed::refusal(policy, s, Operation::Check(target));
-    if number == answers::ACCEPTED {
-        *answer = answers::verdict_byte(s.check(policy, target), 0);
+    let s = Passed::from(*state);
+    match passed::refusal(policy, s, Operation::Check(target)) {
+        Ok(()) => {
+            *answer = answers::verdict_byte(s.check(policy, target), 0);
+            0
+        }
+        Err(why) => why.number(),
     }
-    number
 }
 
 // The derivation of a granted check.
@@ -206,9 +223,7 @@ pub fn galmuvesh_derivation_write(
     ensures { Reports (report result figure.new) steps.old steps.new
         (writing policy.now state.now target (length steps.old)) }
 {
-    let report = derivation::write(policy, state, target, steps);
-    *figure = report.figure;
-    report.number
+    told(derivation::write(policy, state, target, steps), figure)
 }
 
 // Whether a derivation is accepted.
@@ -221,7 +236,5 @@ pub fn galmuvesh_derivation_check(
 ) -> u8
     ensures { Tells (report result figure.new) (checking policy.now state.now target steps.now) }
 {
-    let report = derivation::check(policy, state, target, steps);
-    *figure = report.figure;
-    report.number
+    told(derivation::check(policy, state, target, steps), figure)
 }

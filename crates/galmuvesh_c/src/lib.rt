@@ -14,7 +14,7 @@ ghost use Rattle.record.specs.Pictures.{by_record};
 ghost use Rattle.derivation.specs.Promise.{checking, writing};
 ghost use Rattle.galmuvesh.specs.Boundary.{report, Moves, Asks};
 
-use galmuvesh::State;
+use passed::State;
 use policy::Policy;
 
 // A policy from its bytes.

@@ -1,13 +1,15 @@
 -- Bytes that are put one after another stand in the buffer as one. Assumes nothing.
-use mathlib.Core.Path.{◌≡◌, refl, ap, ◌∙◌}
-use mathlib.Core.List.{List, [], ◌∷◌, ◌++◌}
-use Prim.Native.Nat.{ℕ, ◌+◌, ◌≤◌, ◌<◌}
+use mathlib.Core.Path.{◌≡◌, refl, sym, ap, ◌∙◌}
+use mathlib.Core.List.{List, [], ◌++◌, append_assoc, append-nil}
+use Prim.Native.Nat.{ℕ, ◌+◌, ◌-◌, ◌≤◌}
+use native.Mathlib.Nat.{zero-add}
 use native.Mathlib.Omega.{arith}
-use lib.ListN.{length, take, set, length-append}
-use lib.Seq.{length-sets, length-take-le}
-use borrow.Author.Tests.{lt-ltb, le-ltb}
-use Rattle.beliefs.proofs.Lists.{sets_more, front}
-use Rattle.lines.specs.Promise.{Puts, Lined}
+use lib.ListN.{length, take, drop, length-append, length-drop}
+use lib.Seq.{sets, sets-eq, take_all}
+use Rattle.std.proofs.lemmas.List.{drop-drop, drop_all}
+use borrow.Rule.Slice.PartMut.{mid_of, put_mid, put_same}
+use Rattle.beliefs.proofs.Lists.{sets_more}
+use Rattle.lines.specs.Promise.{Puts}
 
 pub then : {l m n : List ℕ} {i j k : ℕ} {a b : List ℕ} → Puts l m i j a → Puts m n j k b → Puts l n i k (a ++ b)
 then {l} {m} {n} {i} {j} {k} {a} {b} p q = record {
@@ -18,35 +20,37 @@ then {l} {m} {n} {i} {j} {k} {a} {b} p q = record {
 pub none : {l : List ℕ} → Puts l l 0 0 []
 none = record { until = refl; buffer = refl }
 
-pub one : (l : List ℕ) (i v : ℕ) → Puts l (set l i v) i (i + 1) (v ∷ [])
-one l i v = record { until = refl; buffer = refl }
+-- the first bytes of a buffer overwritten
+pub at_front : (l bytes : List ℕ) → length bytes ≤ length l → bytes ++ drop (length bytes) l ≡ sets l 0 bytes
+at_front l bytes h = sym (sets-eq bytes l 0 (omega arith) ∙ ap (λ n. bytes ++ drop n l) (zero-add (length bytes)))
 
--- what was put at the front of a line is what is carried out of it
-pub carried : {l m : List ℕ} {n : ℕ} {bytes : List ℕ} → Puts l m 0 n bytes → length bytes ≤ length l → take n m ≡ bytes
-carried {l} {m} {n} {bytes} p h =
-    let e : n ≡ length bytes = omega (arith, p.until) in
-    rw (e, p.buffer) (front l bytes h)
+-- what stands behind a place
+abbrev pub rest : List ℕ → ℕ → List ℕ
+rest l at = mid_of at (length l - at) l
 
--- a line that does not fit is not written, and one that fits is written whole
-pub nothing : (lent line : List ℕ) → length lent < length line → Lined 0 lent lent line
-nothing lent line h = record { count = rw (lt-ltb (length lent) (length line) h); buffer = rw (lt-ltb (length lent) (length line) h) }
+rest_all : (l : List ℕ) (at : ℕ) → rest l at ≡ drop at l
+rest_all l at = take_all (length l - at) (drop at l) (simp length-drop (omega arith))
 
-pub whole : {r : ℕ} {lent left line : List ℕ} → length line ≤ length lent → Puts lent left 0 r line → Lined r lent left line
-whole {r} {lent} {left} {line} h p = record {
-  count = rw (le-ltb (length lent) (length line) h) (omega (arith, p.until));
-  buffer = rw (le-ltb (length lent) (length line) h) p.buffer;
-}
+pub length_rest : (l : List ℕ) (at : ℕ) → length (rest l at) ≡ length l - at
+length_rest l at = ap length (rest_all l at) ∙ length-drop at l
 
--- a line that was composed in a buffer of 80 bytes: its length, and its bytes at the front
-pub record Composed (n : ℕ) (m bytes : List ℕ) : Type 0 where
-  pub len : n ≡ length bytes
-  pub text : take n m ≡ bytes
-  pub room : length m ≡ 80
-  pub within : n ≤ length m
-  pub span : length (take n m) ≡ n
+-- the buffer, once others stand there
+abbrev pub with_rest : List ℕ → ℕ → List ℕ → List ℕ
+with_rest l at new = put_mid at (length l - at) l new
 
-pub composed : {l m : List ℕ} {n : ℕ} {bytes : List ℕ} → Puts l m 0 n bytes → length l ≡ 80 → length bytes ≤ 80 → Composed n m bytes
-composed {l} {m} {n} {bytes} p h k =
-    let e : length m ≡ length l = ap length p.buffer ∙ length-sets l 0 bytes in
-    let f : n ≤ length m = omega (arith, p.until) in
-    record { len = omega (arith, p.until); text = carried p (omega arith); room = e ∙ h; within = f; span = length-take-le n m f }
+pub nothing_behind : {left new : List ℕ} (at : ℕ) → new ≡ rest left at → with_rest left at new ≡ left
+nothing_behind {left} {new} at same = ap (with_rest left at) same ∙ put_same at (length left - at) left
+
+pub behind : {left new bytes : List ℕ} {n : ℕ} (at : ℕ) → at ≤ length left → length bytes ≤ length (rest left at) → Puts (rest left at) new 0 n bytes
+    → Puts left (with_rest left at new) at (at + n) bytes
+behind {left} {new} {bytes} {n} at within fits p =
+    let room : at + length bytes ≤ length left = omega (arith, length_rest left at) in
+    let past : drop (length left - at) (drop at left) ≡ [] = drop_all (length left - at) (drop at left) (simp length-drop (omega arith)) in
+    let kept : drop (length bytes) (rest left at) ≡ drop (at + length bytes) left =
+    ap (drop (length bytes)) (rest_all left at) ∙ drop-drop (length bytes) at left in
+    let all : new ≡ bytes ++ drop (at + length bytes) left = p.buffer ∙ sym (at_front (rest left at) bytes fits) ∙ ap (λ r. bytes ++ r) kept in
+    record {
+      until = omega (arith, p.until);
+      buffer = ap (λ r. take at left ++ (new ++ r)) past ∙ ap (λ r. take at left ++ r) (append-nil new ∙ all)
+          ∙ sym (append_assoc (take at left) bytes _) ∙ sym (sets-eq bytes left at room);
+    }

@@ -1,15 +1,16 @@
--- A number of 64 bits has at most 20 digits, and they are those of its tenth part, then its last. Assumes nothing.
-use mathlib.Core.Path.{◌≡◌, ◌∙◌}
-use mathlib.Core.List.{List, [], ◌∷◌, ◌++◌}
-use Prim.Native.Nat.{ℕ, zero, suc, ◌+◌, ◌/◌, ◌%◌, ◌^◌, ◌≤◌, ◌<◌}
+-- A number of 64 bits has at most 20 digits, and they are those that std prints of it. Assumes nothing.
+use mathlib.Core.Path.{◌≡◌, ◌∙◌, sym}
+use mathlib.Core.List.{[], ◌∷◌, ◌++◌}
+use Prim.Native.Nat.{ℕ, zero, suc, ◌/◌, ◌%◌, ◌^◌, ◌≤◌, ◌<◌}
 use native.Mathlib.Nat.{pow-suc}
 use native.Mathlib.Omega.{arith}
 use mathlib.Core.Bool.{Bool, true, false, cond}
 use lib.Dec.{ltb}
 use lib.ListN.{length, length-append}
 use borrow.Author.Tests.{lt-ltb, le-ltb}
+use Rattle.std.specs.Fmt as std
+use Rattle.std.proofs.lemmas.Fmt.{AppendsLastDigit, decimal_from_appends, length-decimal-le}
 use Rattle.lines.specs.Text.{digit, digits, decimal}
-use Rattle.lines.specs.Promise.{Puts}
 
 digits_short : (k n : ℕ) → length (digits k n) ≤ suc k
 unfolding digits
@@ -30,21 +31,13 @@ unfolding digits
 spare_place zero n h = rw (lt-ltb n 10 h)
 spare_place (suc k) n h = rw (spare_place k (n / 10) (omega (arith, pow-suc 10 (suc k))))
 
-pub decimal_one : (n : ℕ) → n < 10 → decimal n ≡ digit n ∷ []
-unfolding decimal digits
-decimal_one n h = rw (lt-ltb n 10 h)
-
-digits_more : (k n : ℕ) → 10 ≤ n → digits (suc k) n ≡ digits k (n / 10) ++ (digit (n % 10) ∷ [])
+last_appended : AppendsLastDigit digits
 unfolding digits
-digits_more k n h = rw (le-ltb n 10 h)
+last_appended = record {
+  one = λ k n h. rw (lt-ltb n 10 h);
+  more = λ k n l. rw (le-ltb n 10 l);
+}
 
-pub decimal_more : (n : ℕ) → n < 2 ^ 64 → 10 ≤ n → decimal n ≡ decimal (n / 10) ++ (digit (n % 10) ∷ [])
+pub printed : (n : ℕ) → n < 2 ^ 64 → decimal n ≡ std.decimal n
 unfolding decimal
-decimal_more n h l = digits_more 18 n l ∙ rw (spare_place 18 (n / 10) (omega arith))
-
-pub decimal_tenth : (n : ℕ) → n < 2 ^ 64 → 10 ≤ n → length (decimal n) ≡ length (decimal (n / 10)) + 1
-decimal_tenth n h l = rw (decimal_more n h l) (length-append (decimal (n / 10)) _)
-
--- where the tenth part's digits end, the last digit stands
-pub tenth_end : {l m : List ℕ} {at end : ℕ} (n : ℕ) → n < 2 ^ 64 → 10 ≤ n → Puts l m at end (decimal (n / 10)) → end + 1 ≡ at + length (decimal n)
-tenth_end n h l p = omega (arith, p.until, decimal_tenth n h l)
+printed n h = sym (spare_place 19 n (omega arith)) ∙ decimal_from_appends digits last_appended 20 n h (length-decimal-le 20 n (omega arith) (omega arith) h)

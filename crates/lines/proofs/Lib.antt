@@ -2,7 +2,6 @@
 pub mod Digits
 pub mod After
 pub mod Short
-pub mod Places
 pub mod Pages
 pub mod Whole
 pub mod Unique

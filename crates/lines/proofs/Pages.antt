@@ -29,46 +29,46 @@ module _ (line : ℕ → List ℕ) where
   unfolding page
   page_none room k = refl
 
-  -- what stands in the buffer when the next line is that at `next`, and what the rest of the page adds to it
-  pub record Filling (lent : List ℕ) (end from next at : ℕ) (left : List ℕ) : Type 0 where
+  -- what stands in the buffer when the page is so far r, and what its rest adds to it
+  pub record Filling (lent : List ℕ) (end from : ℕ) (r : Filled) (left : List ℕ) : Type 0 where
     pub written : List ℕ
-    pub puts : Puts lent left 0 at written
-    pub total : page line (length lent) from (end - from) ≡ follow written (page line (length lent - at) next (end - next))
+    pub puts : Puts lent left 0 r.len written
+    pub total : page line (length lent) from (end - from) ≡ follow written (page line (length lent - r.len) r.next (end - r.next))
 
-  pub begun : (lent : List ℕ) (end from : ℕ) → Filling lent end from from 0 lent
+  pub begun : (lent : List ℕ) (end from : ℕ) → Filling lent end from (record { next = from; len = 0 }) lent
   begun lent end from = record { written = []; puts = none; total = rw (sub-zero (length lent)) }
 
-  module _ {lent : List ℕ} {end from next at : ℕ} {left : List ℕ} (f : Filling lent end from next at left) where
-    pub onward : {at' : ℕ} {left' : List ℕ} → next < end → length (line next) ≤ length lent - at
-        → Puts left left' at at' (line next) → Filling lent end from (next + 1) at' left'
+  module _ {lent : List ℕ} {end from : ℕ} {r : Filled} {left : List ℕ} (f : Filling lent end from r left) where
+    pub onward : {at' : ℕ} {left' : List ℕ} → r.next < end → length (line r.next) ≤ length lent - r.len
+        → Puts left left' r.len at' (line r.next) → Filling lent end from (record { next = r.next + 1; len = at' }) left'
     onward {at'} {left'} more fits p =
-        let e : end - next ≡ suc (end - (next + 1)) = omega arith in
-        let s : next + 1 ≡ suc next = omega arith in
-        let m : length lent - at - length (line next) ≡ length lent - at' = omega (arith, p.until) in
-        let rest = page line (length lent - at') (suc next) (end - suc next) in
+        let e : end - r.next ≡ suc (end - (r.next + 1)) = omega arith in
+        let s : r.next + 1 ≡ suc r.next = omega arith in
+        let m : length lent - r.len - length (line r.next) ≡ length lent - at' = omega (arith, p.until) in
+        let rest = page line (length lent - at') (suc r.next) (end - suc r.next) in
         record {
-          written = f.written ++ line next;
+          written = f.written ++ line r.next;
           puts = then f.puts p;
-          total = f.total ∙ rw (e, page_more (length lent - at) next (end - (next + 1)) fits, m, s)
-              (λ i. record { next = rest.next; written = sym (append_assoc f.written (line next) rest.written) i });
+          total = f.total ∙ rw (e, page_more (length lent - r.len) r.next (end - (r.next + 1)) fits, m, s)
+              (λ i. record { next = rest.next; written = sym (append_assoc f.written (line r.next) rest.written) i });
         }
 
-    ended : (r : Filled) → r.next ≡ next → r.len ≡ at → page line (length lent - at) next (end - next) ≡ record { next = next; written = [] }
+    ended : page line (length lent - r.len) r.next (end - r.next) ≡ record { next = r.next; written = [] }
         → Fills r lent left (page line (length lent) from (end - from))
-    ended r n l e = rw (f.total, e) (record {
-      next = n;
-      len = rw (append-nil f.written) (omega (arith, l, f.puts.until));
+    ended e = rw (f.total, e) (record {
+      next = refl;
+      len = rw (append-nil f.written) (omega (arith, f.puts.until));
       buffer = rw (append-nil f.written) f.puts.buffer;
     })
 
     -- the next line does not fit, or there is none
-    pub full : length lent - at < length (line next) → Fills (record { next = next; len = at }) lent left (page line (length lent) from (end - from))
-    full h = ended (record { next = next; len = at }) refl refl (page_full (length lent - at) next (end - next) h)
+    pub full : length lent - r.len < length (line r.next) → Fills r lent left (page line (length lent) from (end - from))
+    full h = ended (page_full (length lent - r.len) r.next (end - r.next) h)
 
-    pub finished : end ≤ next → Fills (record { next = next; len = at }) lent left (page line (length lent) from (end - from))
+    pub finished : end ≤ r.next → Fills r lent left (page line (length lent) from (end - from))
     finished h =
-        let e : end - next ≡ 0 = omega arith in
-        ended (record { next = next; len = at }) refl refl (rw e (page_none (length lent - at) next))
+        let e : end - r.next ≡ 0 = omega arith in
+        ended (rw e (page_none (length lent - r.len) r.next))
 
   -- a page and the text from its next place on are the text from its first place on
   joins : (n room k : ℕ) → (page line room k n).written ++ joined line (page line room k n).next (k + n - (page line room k n).next) ≡ joined line k n

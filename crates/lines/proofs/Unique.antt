@@ -26,9 +26,9 @@ pub end_line_unique : Fixes contracts.end_line.ended end_line.Reads.Post
 end_line_unique _ _ _ _ _ _ = lined_unique (λ w. (tt, (w, tt)))
 
 pub refused_line_unique : Fixes contracts.refused_line.ended refused_line.Reads.Post
-refused_line_unique _ _ _ _ _ _ = lined_unique (λ w. (tt, (tt, (w, tt))))
+refused_line_unique _ _ _ _ _ _ = lined_unique (λ w. (tt, (w, tt)))
 
 pub fill_unique : Fixes contracts.fill.ended fill.Reads.Post
 fill_unique _ _ _ _ _ _ h k =
     let buffer = one_result h.buffer k.buffer in
-    (λ i. record { next = one_result h.next k.next i; len = one_result h.len k.len i }, λ i. (tt, (tt, (tt, (tt, (tt, (buffer i, tt)))))))
+    (λ i. record { next = one_result h.next k.next i; len = one_result h.len k.len i }, λ i. (tt, (tt, (buffer i, tt))))

@@ -1,8 +1,9 @@
 -- A text is written in pages: as many whole lines as fit into a lent buffer.
 use Rattle.std.specs.Prelude.{cond, List, [], ◌++◌, ℕ, zero, suc, ◌+◌, ◌-◌, ◌/◌, eqb, ltb, length}
-use Rattle.answers.specs.Account.{Report}
+use Rattle.answers.specs.Account.{Report, report_of}
 use Rattle.beliefs.specs.Policy.{Policy}
 use Rattle.policy.specs.Read.{least}
+use Rattle.lines.specs.declared.Run.{Run}
 use Rattle.lines.specs.Text.{policy_line, word_line, last_line}
 
 -- the place where the next page begins, and this page's bytes
@@ -39,6 +40,16 @@ line_at p trace answers r k =
 -- the page of a listing from a place on, through a buffer of so much room
 abbrev pub page_from : Policy → List ℕ → List ℕ → Report → ℕ → ℕ → Page
 page_from p trace answers r room k = page (line_at p trace answers r) room k (places trace r - k)
+
+-- the same of a run as the program has it
+abbrev pub run_places : Run → ℕ
+run_places run = places run.trace.now (report_of run.report)
+
+abbrev pub run_line : Run → ℕ → List ℕ
+run_line run k = line_at run.policy.now run.trace.now run.answers.now (report_of run.report) k
+
+abbrev pub run_page : Run → ℕ → ℕ → Page
+run_page run room k = page_from run.policy.now run.trace.now run.answers.now (report_of run.report) room k
 
 -- at most f pages from place k on, each through a buffer of the same room, one after another
 unfoldable pub pages : (ℕ → List ℕ) → ℕ → ℕ → ℕ → ℕ → List ℕ

@@ -1,18 +1,34 @@
 // The text of a listing: its lines, and the pages that a buffer of any size takes of them.
 #![tactic(auto)]
 
-ghost use Rattle.std.specs.Prelude.{◌≡◌, ◌+◌, ◌≤◌, length, take, get_or};
-ghost use Rattle.lines.specs.Text.{decimal, item, start, verdict};
+ghost use Rattle.std.specs.Prelude.{◌≡◌, ◌+◌, ◌<◌, ◌≤◌, ◌++◌, length};
+ghost use Rattle.arrayvec.specs.ArrayString.{array_string_len};
+ghost use Rattle.answers.specs.Numbers.{number};
+ghost use Rattle.answers.specs.Account.{report_of};
+ghost use Rattle.lines.specs.Text.{item, start, verdict};
 ghost use Rattle.lines.specs.Text.{policy_line, check_line, end_line, refused_line, last_line, word_line};
-ghost use Rattle.lines.specs.Page.{words_run, line_at, page_from};
-ghost use Rattle.lines.specs.Promise.{Puts, Lined, Fills};
+ghost use Rattle.lines.specs.Page.{words_run, run_line, run_page};
+ghost use Rattle.lines.specs.Promise.{Delivers, Lined, Fills};
 
-use answers::Report;
+use answers::{Report, Stop};
+use arrayvec::ArrayString;
 use policy::Policy;
-use words::{Decoded, Operation};
+use words::{Operation, Word};
 
 // Room for the longest line: three numbers of at most 20 digits, and "forbidden" between them.
 pub const LINE_MOST: usize = 80;
+
+// A line that is composed. It always has room, and `push_str` and `push` ask for a proof of that; `write!` would not say that it succeeds.
+type Line = ArrayString<LINE_MOST>;
+
+// A run that is listed: what it ran, what it answered, and its report.
+#[derive(Clone, Copy)]
+pub struct Run<'a> {
+    pub policy: &'a Policy,
+    pub trace: &'a [u8],
+    pub answers: &'a [u8],
+    pub report: Report,
+}
 
 // Where the next page begins, and how many bytes this one has.
 #[derive(Clone, Copy)]
@@ -21,258 +37,181 @@ pub struct Filled {
     pub len: usize,
 }
 
-// Bytes into a buffer at a place; answers where they end.
-fn put(out: &mut [u8], at: usize, text: &[u8]) -> usize
-    requires { at + length text.now ≤ length out.old }
-    ensures { Puts out.old out.new at result text.now }
-{
-    let mut i: usize = 0;
-    while i < text.len() {
-        out[at + i] = text[i];
-        i += 1;
-    }
-    at + i
-}
-
-// A number's decimal digits: those of its tenth part, then its last.
-fn put_number(out: &mut [u8], at: usize, n: u64) -> usize
-    requires { at + length (decimal n) ≤ length out.old }
-    ensures { Puts out.old out.new at result (decimal n) }
-{
-    if n < 10 {
-        out[at] = b'0' + n as u8;
-        return at + 1;
-    }
-    let end = put_number(out, at, n / 10);
-    out[end] = b'0' + (n % 10) as u8;
-    end + 1
-}
-
 // A number, and the character that ends it.
-fn put_item(out: &mut [u8], at: usize, n: u64, end: u8) -> usize
-    requires { at + 21 ≤ length out.old }
-    ensures puts { Puts out.old out.new at result (item n end) }
-    ensures upper_bound { result ≤ at + 21 }
+fn push_item(line: &mut Line, n: u64, end: char)
+    requires ascii { end < 128 }
+    requires room { array_string_len line.old + 21 ≤ LINE_MOST }
+    ensures text { line.new.bytes ≡ line.old.bytes ++ item n end }
+    ensures len { array_string_len line.new ≤ array_string_len line.old + 21 }
 {
-    let last = put_number(out, at, n);
-    out[last] = end;
-    last + 1
+    line.push_str(itoa::Buffer::new().format(n));
+    line.push(end);
 }
 
 // The start by its name, which ends the policy's line.
-fn put_start(out: &mut [u8], at: usize, full: bool) -> usize
-    requires { at + 6 ≤ length out.old }
-    ensures { Puts out.old out.new at result (start full) }
+fn start(full: bool) -> &'static str
+    ensures text { result.now ≡ start full }
+    ensures len { length result.now ≤ 6 }
 {
-    if full {
-        put(out, at, b"full\n")
-    } else {
-        put(out, at, b"empty\n")
-    }
+    if full { "full\n" } else { "empty\n" }
 }
 
 // The verdict by its name.
-fn put_verdict(out: &mut [u8], at: usize, granted: bool) -> usize
-    requires { at + 10 ≤ length out.old }
-    ensures puts { Puts out.old out.new at result (verdict granted) }
-    ensures upper_bound { result ≤ at + 10 }
+fn verdict(granted: bool) -> &'static str
+    ensures text { result.now ≡ verdict granted }
+    ensures len { length result.now ≤ 10 }
 {
-    if granted {
-        put(out, at, b"granted ")
-    } else {
-        put(out, at, b"forbidden ")
-    }
+    if granted { "granted " } else { "forbidden " }
 }
 
-// The policy's line; this and the lines below go to the front of a buffer with room for any line.
-fn put_policy(policy: &Policy, line: &mut [u8]) -> usize
-    requires { 80 ≤ length line.old }
-    ensures { Puts line.old line.new 0 result (policy_line policy.now) }
+// The policy's line.
+fn policy_text(policy: &Policy) -> Line
+    ensures { result.bytes ≡ policy_line policy.now }
 {
-    let mut at = put(line, 0, b"policy ");
-    at = put_item(line, at, policy::signers(policy), b' ');
-    at = put_item(line, at, policy::targets(policy), b' ');
-    put_start(line, at, policy::is_full(policy))
+    let mut line = Line::new();
+    line.push_str("policy ");
+    push_item(&mut line, policy::signers(policy), ' ');
+    push_item(&mut line, policy::targets(policy), ' ');
+    line.push_str(start(policy::is_full(policy)));
+    line
 }
 
 // A check's line.
-fn put_check(index: usize, target: u8, answer: u8, line: &mut [u8]) -> usize
-    requires { 80 ≤ length line.old }
-    ensures { Puts line.old line.new 0 result (check_line index target answer) }
+fn check_text(index: usize, target: u8, answer: u8) -> Line
+    ensures { result.bytes ≡ check_line index target answer }
 {
-    let mut at = put_item(line, 0, index as u64, b' ');
-    at = put_item(line, at, target as u64, b' ');
-    at = put_verdict(line, at, answer / 64 == 1);
-    put_item(line, at, (answer % 64) as u64, b'\n')
+    let mut line = Line::new();
+    push_item(&mut line, index as u64, ' ');
+    push_item(&mut line, target as u64, ' ');
+    line.push_str(verdict(answer / 64 == 1));
+    push_item(&mut line, (answer % 64) as u64, '\n');
+    line
 }
 
 // The last line where every word was run.
-fn put_end(words: u64, line: &mut [u8]) -> usize
-    requires { 80 ≤ length line.old }
-    ensures { Puts line.old line.new 0 result (end_line words) }
+fn end_text(words: u64) -> Line
+    ensures { result.bytes ≡ end_line words }
 {
-    let at = put(line, 0, b"end ");
-    put_item(line, at, words, b'\n')
+    let mut line = Line::new();
+    line.push_str("end ");
+    push_item(&mut line, words, '\n');
+    line
 }
 
 // The last line where a word, or all of it, was refused.
-fn put_refused(number: u8, index: u64, line: &mut [u8]) -> usize
-    requires { 80 ≤ length line.old }
-    ensures { Puts line.old line.new 0 result (refused_line number index) }
+fn refused_text(stop: Stop) -> Line
+    ensures { result.bytes ≡ refused_line (number stop.why) stop.at }
 {
-    let mut at = put(line, 0, b"refused ");
-    at = put_item(line, at, number as u64, b' ');
-    put_item(line, at, index, b'\n')
+    let mut line = Line::new();
+    line.push_str("refused ");
+    push_item(&mut line, stop.why.number() as u64, ' ');
+    push_item(&mut line, stop.at, '\n');
+    line
 }
 
-// A composed line at the front of the lent buffer, whole or not at all.
-fn deliver(line: &[u8], len: usize, out: &mut [u8]) -> usize
-    requires { len ≤ length line.now }
-    ensures { Lined result out.old out.new (take len line.now) }
+// A line to the front of a buffer, whole or not at all: how many bytes it has.
+fn deliver(line: &Line, out: &mut [u8]) -> Option<usize>
+    ensures { Delivers result out.old out.new line.now.bytes }
 {
+    let len = line.len();
     if out.len() < len {
-        return 0;
+        return None;
     }
-    put(out, 0, &line[..len])
+    out[..len].copy_from_slice(line.as_str().as_bytes());
+    Some(len)
 }
 
 // The policy's line. Each of these four answers how many bytes it wrote: none where the buffer is too short for the line.
 pub fn policy_line(policy: &Policy, out: &mut [u8]) -> usize
     ensures { Lined result out.old out.new (policy_line policy.now) }
 {
-    let mut line = [0u8; LINE_MOST];
-    let len = put_policy(policy, &mut line);
-    deliver(&line, len, out)
+    deliver(&policy_text(policy), out).unwrap_or(0)
 }
 
 // A check's line, by its word index, its target and its answer byte.
 pub fn check_line(index: usize, target: u8, answer: u8, out: &mut [u8]) -> usize
     ensures { Lined result out.old out.new (check_line index target answer) }
 {
-    let mut line = [0u8; LINE_MOST];
-    let len = put_check(index, target, answer, &mut line);
-    deliver(&line, len, out)
+    deliver(&check_text(index, target, answer), out).unwrap_or(0)
 }
 
 // The last line of a run that was accepted.
 pub fn end_line(words: u64, out: &mut [u8]) -> usize
     ensures { Lined result out.old out.new (end_line words) }
 {
-    let mut line = [0u8; LINE_MOST];
-    let len = put_end(words, &mut line);
-    deliver(&line, len, out)
+    deliver(&end_text(words), out).unwrap_or(0)
 }
 
 // The last line of a run that was refused, and the only one of a refused policy.
-pub fn refused_line(number: u8, index: u64, out: &mut [u8]) -> usize
-    ensures { Lined result out.old out.new (refused_line number index) }
+pub fn refused_line(stop: Stop, out: &mut [u8]) -> usize
+    ensures { Lined result out.old out.new (refused_line (number stop.why) stop.at) }
 {
-    let mut line = [0u8; LINE_MOST];
-    let len = put_refused(number, index, &mut line);
-    deliver(&line, len, out)
+    deliver(&refused_text(stop), out).unwrap_or(0)
 }
 
-// How many words of the trace were run, by a run's report.
-fn words_run(trace: &[u8], figure: u64) -> usize
-    ensures { result ≡ words_run trace.now figure }
-{
-    let words = trace.len() / 2;
-    if words < figure as usize {
-        words
-    } else {
-        figure as usize
+impl Run<'_> {
+    // How many words of the trace were run.
+    fn words(&self) -> usize
+        ensures { result ≡ words_run self.now.trace.now (report_of self.now.report).figure }
+    {
+        let figure = self.report.unwrap_or_else(|stop| stop.at);
+        (self.trace.len() / 2).min(figure as usize)
     }
-}
 
-// An answer byte: 0, which is not granted, where the answers are too few.
-fn answer_at(answers: &[u8], index: usize) -> u8
-    ensures { result ≡ get_or answers.now index 0 }
-{
-    if index < answers.len() {
-        answers[index]
-    } else {
-        0
+    // A word's line where it is a check, nothing where it is not, or is refused. Where the answers are too few the check was not granted.
+    fn word(&self, index: usize) -> Line
+        ensures { result.bytes ≡ word_line self.now.policy.now self.now.trace.now self.now.answers.now index }
+    {
+        let word = words::word_at(self.trace, index);
+        let Ok(Word { op, .. }) = policy::decode(self.policy, word, index) else {
+            return Line::new();
+        };
+        match op {
+            Operation::Check(target) => {
+                let answer = self.answers.get(index).copied().unwrap_or(0);
+                check_text(index, target, answer)
+            }
+            _ => Line::new(),
+        }
     }
-}
 
-// A word's line where it is a check, nothing where it is not, or is refused.
-fn put_word(policy: &Policy, trace: &[u8], answers: &[u8], index: usize, line: &mut [u8]) -> usize
-    requires { 80 ≤ length line.old }
-    ensures { Puts line.old line.new 0 result (word_line policy.now trace.now answers.now index) }
-{
-    let decoded = policy::decode(policy, words::word_at(trace, index), index);
-    let Decoded::Word(w) = decoded else {
-        return 0;
-    };
-    let op = w.op;
-    match op {
-        Operation::Check(target) => put_check(w.index, target, answer_at(answers, index), line),
-        _ => 0,
+    // The last line, by the report.
+    fn last(&self) -> Line
+        ensures { result.bytes ≡ last_line (report_of self.now.report).number (report_of self.now.report).figure }
+    {
+        match self.report {
+            Ok(words) => end_text(words),
+            Err(stop) => refused_text(stop),
+        }
     }
-}
 
-// The last line, by a run's report.
-fn put_last(report: Report, line: &mut [u8]) -> usize
-    requires { 80 ≤ length line.old }
-    ensures { Puts line.old line.new 0 result (last_line report.number report.figure) }
-{
-    if report.number == answers::ACCEPTED {
-        put_end(report.figure, line)
-    } else {
-        put_refused(report.number, report.figure, line)
+    // The line at a place of the listing: the policy's, those of the words that were run, the last.
+    fn line(&self, place: usize) -> Line
+        ensures { result.bytes ≡ run_line self.now place }
+    {
+        if place == 0 {
+            policy_text(self.policy)
+        } else if place - 1 < self.words() {
+            self.word(place - 1)
+        } else {
+            self.last()
+        }
     }
-}
-
-// The line at a place of the listing: the policy's, those of the words that were run, the last.
-fn put_at(
-    policy: &Policy,
-    trace: &[u8],
-    answers: &[u8],
-    report: Report,
-    place: usize,
-    line: &mut [u8],
-) -> usize
-    requires { 80 ≤ length line.old }
-    ensures { Puts line.old line.new 0 result (line_at policy.now trace.now answers.now report place) }
-{
-    if place == 0 {
-        return put_policy(policy, line);
-    }
-    if place - 1 < words_run(trace, report.figure) {
-        return put_word(policy, trace, answers, place - 1, line);
-    }
-    put_last(report, line)
 }
 
 // A page of the listing of a run: as many whole lines from a place on as the buffer takes. A buffer of LINE_MOST bytes takes at least one.
-pub fn fill(
-    policy: &Policy,
-    trace: &[u8],
-    answers: &[u8],
-    report: Report,
-    from: usize,
-    out: &mut [u8],
-) -> Filled
-    ensures { Fills result out.old out.new
-        (page_from policy.now trace.now answers.now report (length out.old) from) }
+pub fn fill(run: &Run<'_>, from: usize, out: &mut [u8]) -> Filled
+    ensures { Fills result out.old out.new (run_page run.now (length out.old) from) }
 {
-    let mut line = [0u8; LINE_MOST];
-    let end = words_run(trace, report.figure) + 2;
-    let mut next = from;
-    let mut at: usize = 0;
-    while next < end {
-        let len = put_at(policy, trace, answers, report, next, &mut line);
-        if out.len() - at < len {
-            return Filled {
-                next: next,
-                len: at,
-            };
-        }
-        at = put(out, at, &line[..len]);
-        next += 1;
+    let mut page = Filled { next: from, len: 0 };
+    for place in from..run.words() + 2 {
+        let Some(more) = deliver(&run.line(place), &mut out[page.len..]) else {
+            return page;
+        };
+        page = Filled {
+            next: place + 1,
+            len: page.len + more,
+        };
     }
-    Filled {
-        next: next,
-        len: at,
-    }
+    page
 }

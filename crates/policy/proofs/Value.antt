@@ -1,11 +1,11 @@
 -- The laws of the value that accepted bytes say. Assumes nothing.
-use mathlib.Core.Path.{◌≡◌, refl, ◌∙◌}
+use mathlib.Core.Path.{◌≡◌, refl, sym, ◌∙◌}
 use mathlib.Core.List.{List, [], ◌∷◌, ◌++◌, append-nil}
-use Prim.Native.Nat.{ℕ, zero, suc, ◌+◌, ◌-◌, ◌<◌}
-use native.Mathlib.Nat.{zero-add, add_assoc}
+use Prim.Native.Nat.{ℕ, zero, suc, ◌+◌, ◌-◌, ◌≤◌, ◌<◌}
+use native.Mathlib.Nat.{zero-add}
 use native.Mathlib.Omega.{arith}
-use lib.ListN.{length, get_or, drop, set, replicate, length-append, length-replicate}
-use lib.Seq.{drop-length, sets, sets-eq}
+use lib.ListN.{length, get_or, take, drop, set, replicate, length-append, length-drop, length-set, length-replicate, drop_of_length-le}
+use lib.Seq.{drop-length, get_or-drop, length-take-le, sets, sets-eq}
 use Rattle.beliefs.specs.Policy.{header, head_start, head_signers, head_targets, width, start, signers, targets, row, rows_read, value_read}
 use Rattle.beliefs.proofs.Lists.{zeros, put_turn, put_end}
 use Rattle.policy.proofs.Rows.{length_rows}
@@ -43,19 +43,35 @@ length_value bs =
       length-replicate {A = ℕ} (32 - n) 0,
     )
 
--- a value is stored word by word: one row, and the rest after it
+-- the rows of a value have 32 words
+pub length_lent : (l : List ℕ) (a b c : ℕ) → length l ≡ 35 → length (take 32 (drop 3 (set (set (set l 0 a) 1 b) 2 c))) ≡ 32
+length_lent l a b c h = length-take-le 32 (drop 3 (set (set (set l 0 a) 1 b) 2 c)) (simp (length-drop, length-set) (omega arith))
+
+-- the rows are stored one by one: one of them, and the rest after it
 pub store_turn : (l bs : List ℕ) (s : ℕ) → s < 32
-    → sets (set l (3 + s) (get_or (rows_read bs) s 0)) (3 + (s + 1)) (drop (3 + (s + 1)) (value_read bs)) ≡ sets l (3 + s) (drop (3 + s) (value_read bs))
-store_turn l bs s h = rw (← value_row bs s, ← add_assoc 3 s 1) (simp zero-add at (put_turn l (value_read bs) 0 (3 + s) (omega (arith, length_value bs))))
+    → sets (set l s (get_or (rows_read bs) s 0)) (s + 1) (drop (s + 1) (drop 3 (value_read bs))) ≡ sets l s (drop s (drop 3 (value_read bs)))
+store_turn l bs s h =
+    let rows = drop 3 (value_read bs) in
+    let at : get_or rows s 0 ≡ get_or (rows_read bs) s 0 = get_or-drop 3 (value_read bs) s 0 ∙ value_row bs s in
+    let long : s < length rows = omega (arith, length-drop 3 (value_read bs), length_value bs) in
+    rw (← at) (simp zero-add at (put_turn l rows 0 s long))
 
--- after the last of them
-pub stored : (l bs : List ℕ) (s : ℕ) → s ≡ 32 → sets l (3 + s) (drop (3 + s) (value_read bs)) ≡ l
-stored l bs s e = simp zero-add at (put_end l (value_read bs) 0 (3 + s) (omega (arith, length_value bs)))
+-- after the last of them nothing is left of what was lent
+pub stored : (l lent bs : List ℕ) (s : ℕ) → length lent ≡ 32 → 32 ≤ s → sets l s (drop s (drop 3 (value_read bs))) ≡ sets lent 0 (drop 3 (value_read bs))
+    → l ≡ drop 3 (value_read bs)
+stored l lent bs s h m e =
+    let rows = drop 3 (value_read bs) in
+    let long : length rows ≡ 32 = omega (arith, length-drop 3 (value_read bs), length_value bs) in
+    let last = put_end l rows 0 s (omega arith) in
+    let whole : 0 + length rows ≡ length lent = omega arith in
+    sym (simp zero-add at last) ∙ e ∙ sets-eq rows lent 0 (omega arith) ∙ rw (whole, drop-length lent) (append-nil rows)
 
--- all 35 words, the header's three first, leave nothing of what was lent
+-- the header's three words and the rows are all 35
 pub all_stored : (l bs : List ℕ) → length l ≡ 35
-    → sets (set (set (set l 0 (head_start (header bs))) 1 (head_signers (header bs))) 2 (head_targets (header bs))) 3 (drop 3 (value_read bs)) ≡ value_read bs
+    → let headed = set (set (set l 0 (head_start (header bs))) 1 (head_signers (header bs))) 2 (head_targets (header bs)) in
+    take 3 headed ++ (drop 3 (value_read bs) ++ drop 32 (drop 3 headed)) ≡ value_read bs
 unfolding value_read
-all_stored l bs h =
-    let e : 0 + length (value_read bs) ≡ length l = omega (arith, length_value bs) in
-    sets-eq (value_read bs) l 0 (omega arith) ∙ rw (e, drop-length l) (append-nil (value_read bs))
+all_stored (x ∷ y ∷ z ∷ l) bs h = rw (drop_of_length-le l {i = 32} (omega arith), append-nil)
+all_stored [] bs h = absurd (omega arith)
+all_stored (x ∷ []) bs h = absurd (omega arith)
+all_stored (x ∷ y ∷ []) bs h = absurd (omega arith)

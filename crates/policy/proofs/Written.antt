@@ -1,11 +1,12 @@
 -- The laws of the bytes that a policy is written as. Assumes nothing.
-use mathlib.Core.Path.{◌≡◌, refl, ap, ◌∙◌}
-use mathlib.Core.List.{List, [], ◌∷◌}
-use Prim.Native.Nat.{ℕ, zero, suc, ◌+◌, ◌-◌, ◌*◌, ◌/◌, ◌%◌, ◌≤◌, ◌<◌}
+use mathlib.Core.Path.{◌≡◌, refl, sym, ap, ◌∙◌}
+use mathlib.Core.List.{List, [], ◌∷◌, ◌++◌, append-nil, append_assoc}
+use Prim.Native.Nat.{ℕ, zero, suc, ◌+◌, ◌-◌, ◌*◌, ◌/◌, ◌%◌, ◌^◌, ◌≤◌, ◌<◌}
 use native.Mathlib.Nat.{suc-mul}
 use native.Mathlib.Omega.{arith}
 use lib.ListN.{length, get_or, take, drop, set, length-append, length-take, length-drop, drop_of_length-le}
-use lib.Seq.{drop-cons, get_or-take, get_or-drop, length-take-le, sets}
+use lib.Seq.{drop-cons, drop-drop, drop-length, get_or-take, get_or-drop, length-take-le, sets, sets-eq}
+use Rattle.std.specs.Int.{w16, to_be_bytes}
 use Rattle.beliefs.specs.Policy.{mirrored, row, row_bytes, rows_bytes}
 use Rattle.beliefs.proofs.Lists.{sets_more}
 
@@ -28,13 +29,29 @@ pub row_written : (p : List ℕ) (n s : ℕ) → s < n → get_or (take n (drop 
 row_written p n s h = get_or-take n (drop 3 p) s 0 h ∙ get_or-drop 3 p s 0
 
 -- a row is stored from its first byte to its last: one of them, and the rest after it
-pub put_turn : (l : List ℕ) (at k n w : ℕ) → k < n
-    → sets (set l (at + k) (mirrored (w % 256))) (at + (k + 1)) (row_bytes (n - (k + 1)) (w / 256)) ≡ sets l (at + k) (row_bytes (n - k) w)
+pub put_turn : (l : List ℕ) (k n w : ℕ) → k < n → sets (set l k (mirrored (w % 256))) (k + 1) (row_bytes (n - (k + 1)) (w / 256)) ≡ sets l k (row_bytes (n - k) w)
 unfolding row_bytes
-put_turn l at k n w h =
+put_turn l k n w h =
     let e : n - k ≡ suc (n - (k + 1)) = omega arith in
-    let f : at + (k + 1) ≡ suc (at + k) = omega arith in
+    let f : k + 1 ≡ suc k = omega arith in
     rw (e, f)
+
+-- the bytes of a row fill its place
+pub row_stored : (l : List ℕ) (w : ℕ) → sets l 0 (row_bytes (length l) w) ≡ row_bytes (length l) w
+row_stored l w =
+    let bs = row_bytes (length l) w in
+    let e : 0 + length bs ≡ length l = omega (arith, length_row_bytes (length l) w) in
+    sets-eq bs l 0 (omega arith) ∙ rw (e, drop-length l) (append-nil bs)
+
+-- and with the place filled they are stored where it was taken
+pub row_placed : (l place : List ℕ) (at k n w : ℕ) → n ≡ k → at + k ≤ length l → place ≡ row_bytes (length (take n (drop at l))) w
+    → take at l ++ (place ++ drop n (drop at l)) ≡ sets l at (row_bytes k w)
+row_placed l place at k n w e h p =
+    let bs = row_bytes k w in
+    let long : length (take n (drop at l)) ≡ k = length-take-le n (drop at l) (omega (arith, length-drop at l)) ∙ e in
+    let filled : place ≡ bs = rw long at p in
+    let past : at + length bs ≡ at + k = omega (arith, length_row_bytes k w) in
+    rw (filled, e, drop-drop k at l) (sym (sets-eq bs l at (omega arith) ∙ rw past (append_assoc (take at l) bs (drop (at + k) l))))
 
 -- the rows are stored from the first to the last: one of them, and the rest after it
 pub put_rows_turn : (l p : List ℕ) (n k s : ℕ) → length p ≡ 35 → n ≤ 32 → s < n
@@ -57,3 +74,9 @@ put_rows_turn l p n k s h m o =
 pub rows_put : (l p : List ℕ) (n k s i : ℕ) → n ≤ s → sets l i (rows_bytes k (drop s (take n (drop 3 p)))) ≡ l
 unfolding rows_bytes
 rows_put l p n k s i h = rw (drop_of_length-le (take n (drop 3 p)) {i = s} (omega (arith, length-take n (drop 3 p))))
+
+-- the header's two bytes are stored before the rows
+pub header_put : (l : List ℕ) (h : ℕ) (ws : List ℕ) → 2 ≤ length l → h < 2 ^ 16 → sets (to_be_bytes w16 h ++ drop 2 l) 2 ws ≡ sets l 0 (h / 256 ∷ h % 256 ∷ ws)
+header_put (x ∷ y ∷ l) h ws m k = let e : h / 256 % 256 ≡ h / 256 = omega arith in rw e
+header_put [] h ws m k = absurd (omega arith)
+header_put (x ∷ []) h ws m k = absurd (omega arith)

@@ -1,8 +1,6 @@
 -- What reading a policy promises, and what its argument is.
-use Rattle.std.specs.Prelude.{◌≡◌, cond, List, ℕ, ◌+◌, ◌<◌, eqb, ltb, length, get_or}
-use Rattle.bits.specs.Bit.{below}
-use Rattle.beliefs.specs.Lists.{each}
-use Rattle.beliefs.specs.Policy.{row, header, head_signers, head_targets, size, read_number, value_read}
+use Rattle.std.specs.Prelude.{◌≡◌, cond, List, ℕ, ◌<◌, eqb, ltb, length, get_or}
+use Rattle.beliefs.specs.Policy.{header, head_signers, head_targets, size, read_number, value_read}
 
 -- document 01's number for these bytes; the value is what they say where that is 0, and as it was lent where they are refused
 pub record PolicyRead (bytes lent : List ℕ) (r : ℕ) (left : List ℕ) : Type 0 where
@@ -19,7 +17,3 @@ least a b = cond (ltb a b) a b
 
 unfoldable pub cut_at : List ℕ → ℕ
 cut_at bs = cond (ltb (length bs) 2) (length bs) (least (size (head_signers (header bs)) (head_targets (header bs))) (length bs))
-
--- a word that has no bit at n or above exactly where none of k rows has
-pub record Together (p : List ℕ) (from k w : ℕ) : Type 0 where
-  pub holds : (n : ℕ) → below w n ≡ each (λ i. below (row p (from + i)) n) k

@@ -12,7 +12,7 @@ ghost use Rattle.beliefs.specs.Policy.{signers, targets, row, within, row_fits, 
 ghost use Rattle.beliefs.specs.Policy.{width, size, mirrored, row_of, row_bytes, rows_of, rows_bytes, header, head_signers, head_targets, headed};
 ghost use Rattle.beliefs.specs.Policy.{read_number, value_read, bytes_written, writing};
 ghost use Rattle.beliefs.specs.Stack.{full, start_marks};
-ghost use Rattle.policy.specs.Read.{PolicyRead, Together, cut_at};
+ghost use Rattle.policy.specs.Read.{PolicyRead, cut_at};
 
 use answers::{Refusal, Report};
 use words::{Operation, Word};
@@ -55,63 +55,39 @@ pub fn targets(policy: &Policy) -> u64
 }
 
 // The targets that a signer is permitted, a bit each: none for a signer over 31.
+#[tactic(auto, using(crate::proofs::Fits::row_found))]
 pub fn row(policy: &Policy, signer: u64) -> u64
     ensures { result ≡ row policy.now signer }
 {
-    // As a slice, so that its length is known.
-    let whole: &[u64] = policy;
-    if 31 < signer {
-        return 0;
-    }
-    whole[3 + signer as usize]
-}
-
-// The bits of the rows from one up to another, together. Two tests of many rows are quicker than one for each row.
-fn rows_together(policy: &Policy, from: u64, to: u64) -> u64
-    requires { from ≤ to }
-    ensures { Together policy.now from (to - from) result }
-{
-    let mut together: u64 = 0;
-    let mut s = from;
-    while s < to {
-        together = together | row(policy, s);
-        s += 1;
-    }
-    together
+    policy[3..].get(signer as usize).copied().unwrap_or(0)
 }
 
 // Whether the rows are as number 13 asks: below S no target at N or above, from S on nothing.
+#[tactic(auto, using(crate::proofs::Fits::rows_parted))]
 fn rows_fit(policy: &Policy) -> bool
     requires { signers policy.now ≤ 32 }
     ensures { result ≡ each (row_fits policy.now) 32 }
 {
-    if !bits::fits(rows_together(policy, 0, signers(policy)), targets(policy)) {
-        return false;
-    }
-    rows_together(policy, signers(policy), 32) == 0
+    let end = 3 + signers(policy) as usize;
+    bits::all_fit(&policy[3..end], targets(policy)) && bits::all_fit(&policy[end..], 0)
 }
 
 // Whether n is from 1 to `most`.
 fn in_range(n: u64, most: u64) -> bool
     ensures { result ≡ within n most }
 {
-    if n < 1 { false } else { n <= most }
+    (1..=most).contains(&n)
 }
 
 // Whether number 13 does not refuse the value.
+#[tactic(auto, unfolding(beliefs::specs::Policy::valid))]
 fn valid(policy: &Policy) -> bool
     ensures { result ≡ valid policy.now }
 {
-    if 1 < policy[0] {
-        return false;
-    }
-    if !in_range(signers(policy), 32) {
-        return false;
-    }
-    if !in_range(targets(policy), 64) {
-        return false;
-    }
-    rows_fit(policy)
+    policy[0] <= 1
+        && in_range(signers(policy), 32)
+        && in_range(targets(policy), 64)
+        && rows_fit(policy)
 }
 
 // The front door: what refuses a policy, 13.
@@ -149,7 +125,7 @@ pub fn decode(policy: &Policy, word: u16, index: usize) -> Result<Word, Refusal>
 fn width(n: u64) -> u64
     ensures { result ≡ width n }
 {
-    n / 8 + (n % 8 + 7) / 8
+    n.div_ceil(8)
 }
 
 // How many bytes a policy of s signers and n targets has.
@@ -161,17 +137,11 @@ fn size(s: u64, n: u64) -> u64
 }
 
 // A byte's bits in the other order: target 0 comes first, and the first bit is the most significant.
+#[tactic(auto, using(crate::proofs::Rows::mirrored_reversed))]
 fn mirrored(b: u8) -> u8
     ensures { result ≡ mirrored b }
 {
-    b % 2 * 128
-        + b / 2 % 2 * 64
-        + b / 4 % 2 * 32
-        + b / 8 % 2 * 16
-        + b / 16 % 2 * 8
-        + b / 32 % 2 * 4
-        + b / 64 % 2 * 2
-        + b / 128 % 2
+    b.reverse_bits()
 }
 
 // The row that a row's bytes say, from the last to the first: eight targets to a byte, the highest in the last.
@@ -179,13 +149,10 @@ fn row_of(bytes: &[u8]) -> u64
     requires { length bytes.now ≤ 8 }
     ensures { result ≡ row_of bytes.now }
 {
-    let mut w: u64 = 0;
-    let mut k = bytes.len();
-    while 0 < k {
-        k -= 1;
-        w = w * 256 + mirrored(bytes[k]) as u64;
-    }
-    w
+    bytes
+        .iter()
+        .rev()
+        .fold(0, |row, byte| (row << 8) | u64::from(mirrored(*byte)))
 }
 
 // Row s of the rows after a header, each so many bytes wide: nothing past the last.
@@ -206,14 +173,7 @@ fn padding_clear(bytes: &[u8], rows: u64, wide: u64, n: u64) -> bool
     requires { (2 + rows * wide ≤ length bytes.now) × (wide ≤ 8) }
     ensures { result ≡ all (λ w. below w n) (rows_of rows wide (drop 2 bytes.now)) }
 {
-    let mut s: u64 = 0;
-    while s < rows {
-        if !bits::fits(row_in(bytes, rows, wide, s), n) {
-            return false;
-        }
-        s += 1;
-    }
-    true
+    (0..rows).all(|s| bits::fits(row_in(bytes, rows, wide, s), n))
 }
 
 // The two header bytes as one number.
@@ -221,7 +181,7 @@ fn header(bytes: &[u8]) -> u64
     requires { 2 ≤ length bytes.now }
     ensures { result ≡ header bytes.now }
 {
-    256 * bytes[0] as u64 + bytes[1] as u64
+    u64::from(u16::from_be_bytes([bytes[0], bytes[1]]))
 }
 
 // S, out of the header.
@@ -266,6 +226,7 @@ fn refusal_read(bytes: &[u8]) -> Result<(), Refusal>
 
 // How many bytes at the front of a recording are its policy's, by the header: the trace begins there. All of them where the
 // header or the rows fall short, which reading them then refuses.
+#[tactic(auto, unfolding(crate::specs::Read::cut_at))]
 pub fn cut(bytes: &[u8]) -> usize
     ensures { result ≡ cut_at bytes.now }
 {
@@ -274,11 +235,7 @@ pub fn cut(bytes: &[u8]) -> usize
     }
     let h = header(bytes);
     let wanted = size(head_signers(h), head_targets(h)) as usize;
-    if wanted < bytes.len() {
-        wanted
-    } else {
-        bytes.len()
-    }
+    wanted.min(bytes.len())
 }
 
 // The value that accepted bytes say, into the policy.
@@ -286,8 +243,6 @@ fn store(bytes: &[u8], policy: &mut Policy)
     requires { read_number bytes.now ≡ 0 }
     ensures { policy.new ≡ value_read bytes.now }
 {
-    // As a slice, so that its length is known.
-    let whole: &[u64] = policy;
     let h = header(bytes);
     let rows = head_signers(h);
     let n = head_targets(h);
@@ -295,10 +250,8 @@ fn store(bytes: &[u8], policy: &mut Policy)
     policy[0] = h / 32768;
     policy[1] = rows;
     policy[2] = n;
-    let mut s: usize = 0;
-    while s < 32 {
-        policy[3 + s] = row_in(bytes, rows, wide, s as u64);
-        s += 1;
+    for (s, row) in policy[3..].iter_mut().enumerate() {
+        *row = row_in(bytes, rows, wide, s as u64);
     }
 }
 
@@ -312,24 +265,22 @@ pub fn read(bytes: &[u8], policy: &mut Policy) -> Result<(), Refusal>
 }
 
 // The header of a valid policy as one number.
-fn headed(policy: &Policy) -> u64
+#[tactic(auto, using(beliefs::proofs::Policy::ranges))]
+fn headed(policy: &Policy) -> u16
     requires { valid policy.now ≡ true }
     ensures { result ≡ headed policy.now }
 {
-    policy[0] * 32768 + (policy[1] - 1) * 1024 + (policy[2] - 1) * 16
+    (policy[0] * 32768 + (policy[1] - 1) * 1024 + (policy[2] - 1) * 16) as u16
 }
 
-// A row's bytes, from the first to the last, at a place of the buffer.
-fn put_row(bytes: &mut [u8], at: usize, wide: u64, row: u64)
-    requires { at + wide ≤ length bytes.old }
-    ensures { bytes.new ≡ sets bytes.old at (row_bytes wide row) }
+// A row's bytes, from the first to the last, into their place.
+fn put_row(row: u64, place: &mut [u8])
+    ensures { place.new ≡ row_bytes (length place.old) row }
 {
-    let mut w = row;
-    let mut k: usize = 0;
-    while k < wide as usize {
-        bytes[at + k] = mirrored((w % 256) as u8);
-        w /= 256;
-        k += 1;
+    let mut rest = row;
+    for byte in place.iter_mut() {
+        *byte = mirrored((rest % 256) as u8);
+        rest /= 256;
     }
 }
 
@@ -338,13 +289,9 @@ fn put_rows(policy: &Policy, wide: u64, bytes: &mut [u8])
     requires { (signers policy.now ≤ 32) × (2 + signers policy.now * wide ≤ length bytes.old) }
     ensures { bytes.new ≡ sets bytes.old 2 (rows_bytes wide (take (signers policy.now) (drop 3 policy.now))) }
 {
-    // As a slice, so that its length is known.
-    let whole: &[u64] = policy;
-    let rows = signers(policy);
-    let mut s: u64 = 0;
-    while s < rows {
-        put_row(bytes, (2 + s * wide) as usize, wide, row(policy, s));
-        s += 1;
+    for s in 0..signers(policy) {
+        let at = (2 + s * wide) as usize;
+        put_row(row(policy, s), &mut bytes[at..at + wide as usize]);
     }
 }
 
@@ -353,11 +300,8 @@ fn put(policy: &Policy, bytes: &mut [u8])
     requires { (valid policy.now ≡ true) × (size (signers policy.now) (targets policy.now) ≤ length bytes.old) }
     ensures { bytes.new ≡ sets bytes.old 0 (bytes_written policy.now) }
 {
-    let h = headed(policy);
-    let wide = width(targets(policy));
-    bytes[0] = (h / 256) as u8;
-    bytes[1] = (h % 256) as u8;
-    put_rows(policy, wide, bytes);
+    bytes[..2].copy_from_slice(&headed(policy).to_be_bytes());
+    put_rows(policy, width(targets(policy)), bytes);
 }
 
 // The policy's one byte form into a lent buffer: 13, 9; else how many bytes it has. No byte past it is touched, and none where it is

@@ -1,13 +1,16 @@
 -- Number 14: the words of a run one by one, and a state that pictures a stack is let through. Assumes nothing.
-use mathlib.Core.Path.{◌≡◌, refl, ap, ◌∙◌}
+use mathlib.Core.Path.{◌≡◌, refl, sym, ap, ◌∙◌}
 use mathlib.Core.Bool.{Bool, true, false, ◌&&◌}
 use mathlib.Core.List.{List, [], ◌∷◌}
 use mathlib.Core.Logic.{◌≢◌}
-use Prim.Native.Nat.{ℕ, ◌+◌, ◌-◌, ◌^◌, ◌≤◌, ◌<◌}
+use Prim.Native.Nat.{ℕ, zero, suc, ◌+◌, ◌-◌, ◌^◌, ◌≤◌, ◌<◌}
+use native.Mathlib.Nat.{add-zero, zero-add}
+use native.Mathlib.Numerals.{one-add}
 use native.Mathlib.Omega.{arith}
 use lib.Dec.{eqb}
 use lib.ListN.{length, get_or}
 use borrow.Author.Tests.{lt-ltb, ltb-true, le-leb, eqb-true, eqb-false}
+use Rattle.std.specs.List.{list_all, range_with_len}
 use Rattle.bits.specs.Bit.{below}
 use Rattle.bits.proofs.Laws.{high_bits}
 use Rattle.beliefs.specs.Lists.{each}
@@ -19,6 +22,22 @@ use Rattle.record.specs.Fits.{words_below, words, frame_fits, fits}
 use Rattle.record.specs.Pictures.{FramePictured, FramesPictured, Pictures}
 use Rattle.record.proofs.Frames.{word_held}
 use Rattle.record.proofs.Chains.{none_longer, none_outside}
+
+-- every number of a range, and of the range from 0 on
+each_one : (f : ℕ → Bool) → each f 1 ≡ f 0
+unfolding each
+each_one f = refl
+
+range_each : (f : ℕ → Bool) (from n : ℕ) → list_all f (range_with_len from n) ≡ each (λ k. f (from + k)) n
+range_each f from zero = sym (each_none (λ k. f (from + k)))
+range_each f from (suc n) =
+    let up : (k : ℕ) → from + 1 + k ≡ from + (1 + k) = λ k. omega arith in
+    ap (λ (x : Bool). f from && x)
+    (range_each f (from + 1) n ∙ each_ext (λ k. f (from + 1 + k)) (λ k. f (from + (1 + k))) n (λ k l. ap f (up k)))
+    ∙ sym (rw (← one-add n) (each_sum (λ k. f (from + k)) 1 n ∙ rw (each_one (λ k. f (from + k)), add-zero from)))
+
+pub each_range : (f : ℕ → Bool) (n : ℕ) → list_all f (range_with_len 0 n) ≡ each f n
+each_range f n = range_each f 0 n ∙ each_ext (λ k. f (0 + k)) f n (λ k l. ap f (zero-add k))
 
 -- one by one
 module _ (s : List ℕ) (from to n : ℕ) where
@@ -49,6 +68,17 @@ words_then s from mid to n l m =
     ∙ ap (λ (x : Bool). each f (mid - from) && x)
     (each_ext (λ i. f (mid - from + i)) (λ i. below (get_or s (mid + i) 0) n) (to - mid)
     (λ i h. let at : from + (mid - from + i) ≡ mid + i = omega arith in rw at)))
+
+-- the room from a frame on is zero where each frame's is
+abbrev pub frame_zero : List ℕ → ℕ → Bool
+frame_zero s j = words_below s (frame_from j) (frame_from j + 65) 0
+
+pub frames_zero : (s : List ℕ) (n j : ℕ) → j + n ≡ 63 → list_all (frame_zero s) (range_with_len j n) ≡ words_below s (frame_from j) 4096 0
+frames_zero s zero j h = let top : frame_from j ≡ 4096 = omega arith in rw top (sym (words_none s 4096 0))
+frames_zero s (suc n) j h =
+    let next : frame_from (j + 1) ≡ frame_from j + 65 = omega arith in
+    ap (λ (x : Bool). frame_zero s j && x) (frames_zero s n (j + 1) (omega arith) ∙ rw next)
+    ∙ sym (words_then s (frame_from j) (frame_from j + 65) 4096 0 (omega arith) (omega arith))
 
 module _ (p : Policy) (s : List ℕ) where
   frame_fits_lem : (f : Frame) (r : Stack) → FramePictured p s f r → frame_fits p s (length r) ≡ true

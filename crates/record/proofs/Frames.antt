@@ -1,5 +1,5 @@
 -- Laws of the layout: what stands in the words after a run of them was stored, and after each operation's stores. Assumes nothing.
-use mathlib.Core.Path.{◌≡◌, refl, ◌∙◌}
+use mathlib.Core.Path.{◌≡◌, refl, sym, ◌∙◌}
 use mathlib.Core.Bool.{Bool, true, false, cond}
 use mathlib.Core.List.{List}
 use mathlib.Core.Logic.{◌≢◌}
@@ -9,8 +9,11 @@ use native.Mathlib.Decide.{dec_lt}
 use native.Mathlib.Omega.{arith}
 use lib.Dec.{eqb, ltb}
 use lib.ListN.{length, get_or, set, length-set}
-use lib.Seq.{get_or-set_same, get_or-set_other}
+use lib.Seq.{get_or-set_same, get_or-set_other, paste}
 use borrow.Author.Tests.{lt-ltb, ltb-true, ltb-false, eqb-true, eqb-false}
+use borrow.Rule.Slice.PartMut.{put_mid}
+use Rattle.std.proofs.lemmas.List.Edits.{paste_none, paste_more}
+use Rattle.std.proofs.lemmas.Slice.{put_mid-paste}
 use Rattle.beliefs.specs.Policy.{Target}
 use Rattle.record.specs.Layout.{frame_from, words_from, signer_at, held_at, filled}
 
@@ -43,6 +46,19 @@ module _ (at : ℕ) (w : ℕ → ℕ) (s : List ℕ) where
       go false q ih =
           let other : k ≢ n = eqb-false k n q in
           get_or-set_other (filled at w n s) (at + n) (at + k) (w n) 0 (omega arith) ∙ ih (omega arith)
+
+-- the same words written at once, as a part of the state
+module _ (at : ℕ) (w : ℕ → ℕ) (s ys : List ℕ) where
+  filled_paste : (n : ℕ) → n ≤ length ys → at + n ≤ length s → ((i : ℕ) → i < n → get_or ys i 0 ≡ w i) → filled at w n s ≡ paste s at ys n
+  unfolding filled
+  filled_paste zero a b h = paste_none s at ys
+  filled_paste (suc n) a b h =
+      rw (filled_paste n (omega arith) (omega arith) (λ i l. h i (omega arith)), ← h n (omega arith))
+      (paste_more s at ys n 0 (omega arith) (omega arith) ∙ rw add-one)
+
+  pub part_filled : (n k : ℕ) → k ≡ n → length ys ≡ n → at + n ≤ length s → ((i : ℕ) → i < n → get_or ys i 0 ≡ w i) → put_mid at k s ys ≡ filled at w n s
+  part_filled n k e l m h =
+      put_mid-paste at k s ys ys n refl (sym e) (sym l) ∙ sym (filled_paste n (omega arith) m h)
 
 pub filled_ext : (at : ℕ) (v w : ℕ → ℕ) (s : List ℕ) (n : ℕ) → ((k : ℕ) → k < n → v k ≡ w k) → filled at v n s ≡ filled at w n s
 unfolding filled

@@ -1,6 +1,6 @@
 -- A frame's run by the passed state: its own words, and a callee's run at a stretch. Assumes nothing.
-use mathlib.Core.Path.{◌≡◌, refl, sym, ap, ◌∙◌}
-use mathlib.Core.Logic.{◌≢◌}
+use mathlib.Core.Path.{◌≡◌, refl, sym, ◌∙◌}
+use mathlib.Core.Logic.{◌≢◌, ◌⊎◌, ⊎_elim}
 use mathlib.Core.Bool.{Bool, true, false}
 use mathlib.Core.List.{List, []}
 use Prim.Native.Nat.{ℕ, ◌+◌, ◌*◌, ◌≤◌, ◌<◌}
@@ -8,19 +8,21 @@ use native.Mathlib.Omega.{arith}
 use lib.ListN.{length, set}
 use Rattle.bits.proofs.Laws.{never}
 use Rattle.words.specs.declared.Word.{Word as Held}
-use Rattle.words.specs.Words.{Decoded, Word, Refused as Bad, number_of}
+use Rattle.words.specs.Words.{Word, Refused as Bad}
 use Rattle.beliefs.specs.Policy.{Policy}
 use Rattle.beliefs.specs.Stack.{Stack}
 use Rattle.answers.specs.Answer.{Moved}
 use Rattle.beliefs.specs.Trace.{below, step}
 use Rattle.passed.specs.declared.Passed.{Passed}
-use Rattle.passed.specs.declared.Next.{Next}
-use Rattle.passed.specs.declared.Next.TheVariants.{Stay, Down, Up, Refused}
+use Rattle.passed.specs.Does.{Led, Stay, Down, Up, Refused}
 use Rattle.passed.specs.Pictures.{Pictures, Goes, Passes, Stays, Descends, Ascends, Refuses}
 use Rattle.runner.specs.Progress.{decoded_at, Answered, Stopped}
-use Rattle.runner.specs.Nested.{Leaves}
+use Rattle.std.specs.Prelude.{Ok}
+use Rattle.runner.specs.declared.Left.{Left as Run}
+use Rattle.runner.specs.declared.Left.TheVariants as runs
+use Rattle.runner.specs.Nested.{leaving, Leaves}
 use Rattle.runner.proofs.Progress.{none_yet, then_more, then_stopped, finished, refused, one_more}
-use Rattle.runner.proofs.Going.{fair, Reads, its_index}
+use Rattle.runner.proofs.Going.{fair, Reads}
 
 -- the words of a frame up to i: the stack is the one that the state pictures, over the same frames
 pub record Far (p : Policy) (trace lent : List ℕ) (st : Stack) (from i : ℕ) (s : Passed) (answers : List ℕ) : Type 0 where
@@ -37,23 +39,19 @@ module _ (p : Policy) (trace lent : List ℕ) (st : Stack) (from i : ℕ) (s : P
   over : length trace ≤ 2 * i → Stopped (step false) p trace lent st from i 0 answers
   over h = finished (step false) p trace lent st from i g.stack answers g.answered h
 
-  bad_word : 2 * i + 1 < length trace → (d : Decoded) → d ≡ decoded_at p trace i → (n m : ℕ) → n ≡ number_of d → d ≡ Bad m
-      → Stopped (step false) p trace lent st from i n answers
-  bad_word more d e n m q r =
-      let same : n ≡ m = q ∙ ap number_of r in
-      let word : Bad m ≡ decoded_at p trace i = sym r ∙ e in
-      rw same (refused (step false) p trace lent st from i g.stack answers g.answered more (Bad m) word m refl (fair p trace i (Bad m) word))
+  bad_word : 2 * i + 1 < length trace → (n : ℕ) → Bad n ≡ decoded_at p trace i → Stopped (step false) p trace lent st from i n answers
+  bad_word more n word = refused (step false) p trace lent st from i g.stack answers g.answered more (Bad n) word n refl (fair p trace i (Bad n) word)
 
-  module _ (x : Held) (w : Reads p trace i x) (n : Next) (h : Passes p s x.op n) where
+  module _ (x : Held) (w : Reads p trace i x) (n : Led) (h : Passes p s x.op n) where
     abbrev after : Moved Stack
     after = step false p x.op g.stack
 
-    goes : (k : Next) → n ≡ k → Goes p g.stack after k
+    goes : (k : Led) → n ≡ k → Goes p g.stack after k
     goes k q = rw q at (h.serves w.policy (fair p trace i (Word x) w.word) g.stack g.pictures)
 
-    bad_op : (m : ℕ) → n ≡ Refused m → Stopped (step false) p trace lent st from x.index m answers
+    bad_op : (m : ℕ) → n ≡ Refused m → Stopped (step false) p trace lent st from i m answers
     bad_op m q = let o : Refuses after m = goes (Refused m) q in
-        rw (its_index w) (refused (step false) p trace lent st from i g.stack answers g.answered w.more (Word x) w.word m o.number o.refused)
+        refused (step false) p trace lent st from i g.stack answers g.answered w.more (Word x) w.word m o.number o.refused
 
     -- one word answered
     word : (byte : ℕ) → after.number ≡ 0 → byte ≡ after.byte → Answered (step false) p trace lent st from (i + 1) after.state (set answers i byte)
@@ -105,13 +103,12 @@ module _ {p : Policy} {trace lent : List ℕ} {s₀ : Passed} {from i : ℕ} {s 
   pub leaves_over : length trace ≤ 2 * i → Leaves p trace lent s₀ from i 0 false answers
   leaves_over h = left_over_lem i 0 answers (λ st k. over p trace lent st from i s answers (f.far st k) h)
 
-  pub leaves_bad_word : 2 * i + 1 < length trace → (d : Decoded) → d ≡ decoded_at p trace i → (n m : ℕ) → n ≡ number_of d → d ≡ Bad m
-      → Leaves p trace lent s₀ from i n false answers
-  leaves_bad_word more d e n m q r = left_over_lem i n answers (λ st k. bad_word p trace lent st from i s answers (f.far st k) more d e n m q r)
+  pub leaves_bad_word : 2 * i + 1 < length trace → (n : ℕ) → Bad n ≡ decoded_at p trace i → Leaves p trace lent s₀ from i n false answers
+  leaves_bad_word more n word = left_over_lem i n answers (λ st k. bad_word p trace lent st from i s answers (f.far st k) more n word)
 
-  module _ {x : Held} (w : Reads p trace i x) {n : Next} (h : Passes p s x.op n) where
-    pub leaves_bad_op : (m : ℕ) → n ≡ Refused m → Leaves p trace lent s₀ from x.index m false answers
-    leaves_bad_op m q = left_over_lem x.index m answers (λ st k. bad_op p trace lent st from i s answers (f.far st k) x w n h m q)
+  module _ {x : Held} (w : Reads p trace i x) {n : Led} (h : Passes p s x.op n) where
+    pub leaves_bad_op : (m : ℕ) → n ≡ Refused m → Leaves p trace lent s₀ from i m false answers
+    leaves_bad_op m q = left_over_lem i m answers (λ st k. bad_op p trace lent st from i s answers (f.far st k) x w n h m q)
 
     pub leaves_up : n ≡ Up → Leaves p trace lent s₀ from (i + 1) 0 true (set answers i 0)
     leaves_up q = record { later = λ b. omega (arith, f.later); left = λ st k. up p trace lent st from i s answers (f.far st k) x w n h q }
@@ -141,3 +138,9 @@ pub whole_run : (p : Policy) (trace lent : List ℕ) (s : Passed) (at n : ℕ) (
     → Leaves p trace lent s 0 at n back left → Stopped (step false) p trace lent [] 0 at n left
 whole_run p trace lent s at n true left h l = absurd ((l.left [] h).0 refl)
 whole_run p trace lent s at n false left h l = l.left [] h
+
+-- wherever it says that it is left
+pub whole_end : (p : Policy) (trace lent : List ℕ) (s : Passed) (r : Run) (at : ℕ) (left : List ℕ) → (r ≡ runs.Back at) ⊎ (r ≡ runs.Over at) → Pictures p s []
+    → Leaves p trace lent s 0 (leaving (Ok r)).at (leaving (Ok r)).number (leaving (Ok r)).back left → Stopped (step false) p trace lent [] 0 at 0 left
+whole_end p trace lent s r at left e h =
+    ⊎_elim (λ b l. whole_run p trace lent s at 0 true left h (rw b at l)) (λ o l. whole_run p trace lent s at 0 false left h (rw o at l)) e

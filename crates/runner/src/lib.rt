@@ -1,190 +1,97 @@
 // A trace from a fresh start, by each engine.
 #![tactic(auto)]
 
-ghost use Rattle.std.specs.Prelude.{◌≡◌, true, false, [], length};
-ghost use Rattle.answers.specs.Account.{Reports};
-ghost use Rattle.beliefs.specs.Trace.{step, run_refusal, run};
-ghost use Rattle.runner.specs.Progress.{decoded_at, Stopped};
-ghost use Rattle.runner.specs.Nested.{Leaves};
+ghost use Rattle.std.specs.Prelude.{◌≡◌, false, length};
+ghost use Rattle.answers.specs.Numbers.{number_of};
+ghost use Rattle.answers.specs.Account.{Reports, report_of, stopped_at};
+ghost use Rattle.words.specs.Words.{decoding};
+ghost use Rattle.beliefs.specs.Trace.{run_refusal, run};
+ghost use Rattle.runner.specs.Progress.{decoded_at};
+ghost use Rattle.runner.specs.Nested.{leaving, Leaves};
 
-use answers::Report;
+use answers::{Refusal, Report, Stop};
+use engine::Engine;
 use passed::{Next, Passed};
 use policy::Policy;
-use words::Decoded;
+use words::Word;
 
-// What refuses a run before its first word: 13, 1, 9, or 0 for nothing.
-fn refusal(policy: &Policy, len: usize, room: usize) -> u8
-    ensures { result ≡ run_refusal policy.now len room }
+// What refuses a run before its first word: 13, 1, 9.
+fn refusal(policy: &Policy, len: usize, room: usize) -> Result<(), Refusal>
+    ensures { number_of result ≡ run_refusal policy.now len room }
 {
-    let number = policy::refusal(policy);
-    if number != answers::ACCEPTED {
-        return number;
-    }
-    if len % 2 != 0 {
-        return answers::TOO_FEW;
-    }
-    if room < len / 2 {
-        return answers::NO_ROOM;
-    }
-    answers::ACCEPTED
+    policy::refusal(policy)?;
+    answers::unless(len % 2 == 0, Refusal::TooFew)?;
+    answers::unless(len / 2 <= room, Refusal::NoRoom)
 }
 
 // The word at an index, decoded.
-fn decode_at(policy: &Policy, trace: &[u8], index: usize) -> Decoded
-    ensures { result ≡ decoded_at policy.now trace.now index }
+fn decode_at(policy: &Policy, trace: &[u8], index: usize) -> Result<Word, Refusal>
+    ensures { decoding result ≡ decoded_at policy.now trace.now index }
 {
     policy::decode(policy, words::word_at(trace, index), index)
 }
 
-// The words of a trace by the walk, up to the first that is refused.
-fn walk_words(policy: &Policy, trace: &[u8], answers: &mut [u8]) -> Report
-    requires { run_refusal policy.now (length trace.now) (length answers.old) ≡ 0 }
-    ensures { Stopped (step true) policy.now trace.now answers.old [] 0 result.figure result.number
-        answers.new }
+// What is refused at a word of an index stops there.
+fn stop_at<T>(index: usize, given: Result<T, Refusal>) -> Result<T, Stop>
+    ensures { result ≡ stopped_at index given }
 {
+    match given {
+        Ok(value) => Ok(value),
+        Err(why) => Err(why.at(index)),
+    }
+}
+
+// A run by an engine: 13, 1, 9, then word by word, up to the first that is refused.
+pub fn run<E: Engine>(policy: &Policy, trace: &[u8], answers: &mut [u8]) -> Report
+    ensures { Reports (report_of result) answers.old answers.new
+        (run E.by.counts policy.now trace.now (length answers.old)) }
+{
+    refusal(policy, trace.len(), answers.len())?;
     let words = trace.len() / 2;
-    let mut state = [0u64; walk::WORDS];
-    let mut i: usize = 0;
-    while i < words {
-        let decoded = decode_at(policy, trace, i);
-        let Decoded::Word(w) = decoded else {
-            return Report {
-                number: words::number(decoded),
-                figure: i as u64,
-            };
-        };
-        let op = w.op;
-        let done = walk::serve(policy, &mut state, op);
-        if done.number != answers::ACCEPTED {
-            return Report {
-                number: done.number,
-                figure: w.index as u64,
-            };
-        }
-        answers[i] = done.byte;
-        i += 1;
+    let mut state = E::fresh();
+    for i in 0..words {
+        let word = stop_at(i, decode_at(policy, trace, i))?;
+        answers[i] = stop_at(i, E::serve(policy, &mut state, word.op))?;
     }
-    Report {
-        number: answers::ACCEPTED,
-        figure: i as u64,
-    }
+    Ok(words as u64)
 }
 
-// A run by the walk: 13, 1, 9, then word by word.
-pub fn walk_run(policy: &Policy, trace: &[u8], answers: &mut [u8]) -> Report
-    ensures { Reports result answers.old answers.new
-        (run true policy.now trace.now (length answers.old)) }
-{
-    let refused = refusal(policy, trace.len(), answers.len());
-    if refused != answers::ACCEPTED {
-        return Report {
-            number: refused,
-            figure: 0,
-        };
-    }
-    walk_words(policy, trace, answers)
-}
-
-// The words of a trace by the belief record, up to the first that is refused.
-fn record_words(policy: &Policy, trace: &[u8], answers: &mut [u8]) -> Report
-    requires { run_refusal policy.now (length trace.now) (length answers.old) ≡ 0 }
-    ensures { Stopped (step false) policy.now trace.now answers.old [] 0 result.figure result.number
-        answers.new }
-{
-    let words = trace.len() / 2;
-    let mut state = [0u64; record::WORDS];
-    let mut i: usize = 0;
-    while i < words {
-        let decoded = decode_at(policy, trace, i);
-        let Decoded::Word(w) = decoded else {
-            return Report {
-                number: words::number(decoded),
-                figure: i as u64,
-            };
-        };
-        let op = w.op;
-        let kept = record::serve(policy, &mut state, op);
-        if kept.number != answers::ACCEPTED {
-            return Report {
-                number: kept.number,
-                figure: w.index as u64,
-            };
-        }
-        answers[i] = kept.byte;
-        i += 1;
-    }
-    Report {
-        number: answers::ACCEPTED,
-        figure: i as u64,
-    }
-}
-
-// A run by the belief record: 13, 1, 9, then word by word.
-pub fn record_run(policy: &Policy, trace: &[u8], answers: &mut [u8]) -> Report
-    ensures { Reports result answers.old answers.new
-        (run false policy.now trace.now (length answers.old)) }
-{
-    let refused = refusal(policy, trace.len(), answers.len());
-    if refused != answers::ACCEPTED {
-        return Report {
-            number: refused,
-            figure: 0,
-        };
-    }
-    record_words(policy, trace, answers)
-}
-
-// Where a frame's run was left: past its return, at the trace's end, or at a refused word.
+// Where a frame's run was left: past its return, or at the trace's end.
 #[derive(Clone, Copy)]
-struct Left {
-    at: usize,
-    number: u8,
-    back: bool,
+enum Left {
+    Back(usize),
+    Over(usize),
 }
 
 // The words of one frame from a position on, its callees' among them: it calls itself at a call, and comes back at a return.
-fn frame_run(policy: &Policy, trace: &[u8], answers: &mut [u8], passed: Passed, from: usize) -> Left
+fn frame_run(
+    policy: &Policy,
+    trace: &[u8],
+    answers: &mut [u8],
+    passed: Passed,
+    from: usize,
+) -> Result<Left, Stop>
     requires { run_refusal policy.now (length trace.now) (length answers.old) ≡ 0 }
     ensures { Leaves policy.now trace.now answers.old passed from
-        result.at result.number result.back answers.new }
+        (leaving result).at (leaving result).number (leaving result).back answers.new }
 {
     let words = trace.len() / 2;
     let mut state = passed;
     let mut i = from;
     while i < words {
-        let decoded = decode_at(policy, trace, i);
-        let Decoded::Word(w) = decoded else {
-            return Left {
-                at: i,
-                number: words::number(decoded),
-                back: false,
-            };
-        };
-        let op = w.op;
-        let next = passed::serve(policy, state, op);
-        match next {
-            Next::Refused(number) => {
-                return Left {
-                    at: w.index,
-                    number,
-                    back: false,
-                };
-            }
+        let word = stop_at(i, decode_at(policy, trace, i))?;
+        match stop_at(i, passed::serve(policy, state, word.op))? {
             Next::Up => {
                 answers[i] = 0;
-                return Left {
-                    at: i + 1,
-                    number: answers::ACCEPTED,
-                    back: true,
-                };
+                return Ok(Left::Back(i + 1));
             }
             Next::Down(callee) => {
                 answers[i] = 0;
-                let left = frame_run(policy, trace, answers, callee, i + 1);
-                if !left.back {
-                    return left;
-                }
-                i = left.at;
+                let left = frame_run(policy, trace, answers, callee, i + 1)?;
+                let Left::Back(at) = left else {
+                    return Ok(left);
+                };
+                i = at;
             }
             Next::Stay(same, byte) => {
                 answers[i] = byte;
@@ -193,28 +100,16 @@ fn frame_run(policy: &Policy, trace: &[u8], answers: &mut [u8], passed: Passed, 
             }
         }
     }
-    Left {
-        at: i,
-        number: answers::ACCEPTED,
-        back: false,
-    }
+    Ok(Left::Over(i))
 }
 
 // A run by the passed state: 13, 1, 9, then word by word.
 pub fn passed_run(policy: &Policy, trace: &[u8], answers: &mut [u8]) -> Report
-    ensures { Reports result answers.old answers.new
+    ensures { Reports (report_of result) answers.old answers.new
         (run false policy.now trace.now (length answers.old)) }
 {
-    let refused = refusal(policy, trace.len(), answers.len());
-    if refused != answers::ACCEPTED {
-        return Report {
-            number: refused,
-            figure: 0,
-        };
-    }
-    let left = frame_run(policy, trace, answers, Passed::fresh(), 0);
-    Report {
-        number: left.number,
-        figure: left.at as u64,
+    refusal(policy, trace.len(), answers.len())?;
+    match frame_run(policy, trace, answers, Passed::fresh(), 0)? {
+        Left::Back(at) | Left::Over(at) => Ok(at as u64),
     }
 }

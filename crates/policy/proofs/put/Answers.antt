@@ -1,25 +1,29 @@
 -- The header's two bytes, then the rows: the bytes of the definition in its order.
 use native.Mathlib.Omega.{arith}
 use mathlib.Core.Path.{◌∙◌}
-use lib.ListN.{length-set}
-use Rattle.beliefs.specs.Policy.{bytes_written}
+use Prim.Native.Nat.{◌≤◌}
+use lib.ListN.{length, take, drop, length-append, length-take, length-drop}
+use Rattle.beliefs.specs.Policy.{signers, targets, width, rows_bytes, bytes_written}
 use Rattle.beliefs.proofs.Policy.{ranges}
+use Rattle.policy.proofs.Written.{header_put}
 use Rattle.policy.proofs.put.Goals as goal
-
-pub overflow_cast-bytes : goal.overflow_cast-bytes
-overflow_cast-bytes c = omega (arith, ranges _ c.requires.0)
-
-pub bounds-bytes-1 : goal.bounds-bytes-1
-bounds-bytes-1 c = simp length-set (omega arith)
 
 pub put_rows-requires : goal.put_rows-requires
 put_rows-requires c =
-    ((ranges _ c.requires.0).signers_most, simp length-set (rw (c.width-wide.ensures, c.targets.ensures) c.requires.1))
-
-pub shape_of-bytes : goal.shape_of-bytes
-shape_of-bytes c = c.put_rows.auto.bytes ∙ simp length-set
+    let room : 2 ≤ length c.args.bytes.now = omega arith in (
+      (ranges _ c.requires.0).signers_most,
+      simp (length-append, length-drop, c.copy_from_slice.ensures.len, length-take) (rw (c.width.ensures, c.targets.ensures) (omega arith)),
+    )
 
 pub returns : goal.returns
 unfolding bytes_written
 returns c =
-    rw (← c.headed-h.ensures, ← c.targets.ensures, ← c.width-wide.ensures) c.put_rows.ensures
+    let p = c.args.policy.now in
+    let rows = rows_bytes (width (targets p)) (take (signers p) (drop 3 p)) in
+    c.put_rows.ensures
+    ∙ rw (
+      c.copy_from_slice.ensures.after,
+      c.to_be_bytes.ensures,
+      c.width.ensures,
+      c.targets.ensures,
+    ) (header_put c.args.bytes.now c.headed.result rows (omega arith) c.headed.type_inv ∙ rw c.headed.ensures)

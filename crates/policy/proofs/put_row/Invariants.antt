@@ -1,15 +1,10 @@
--- What is stored before k and what is still to store from k on are together the row's bytes.
-use mathlib.Core.Path.{◌≡◌}
-use Prim.Native.Nat.{◌+◌, ◌-◌, ◌≤◌}
-use lib.ListN.{length}
+-- What is stored and what is still to store are together the row's bytes.
+use Rattle.std.proofs.Common.{◌≡◌, ◌-◌, ◌≤◌, length}
 use lib.Seq.{sets}
 use Rattle.beliefs.specs.Policy.{row_bytes}
 use Rattle.policy.proofs.put_row.Given as goal
 
-abbrev pub invariant-loop-k : goal.invariant-loop-k
-invariant-loop-k l = (l.k ≤ l.wide)
-    × ((length l.bytes ≡ length l.initial.bytes)
-    × (sets l.bytes (l.at + l.k) (row_bytes (l.wide - l.k) l.w) ≡ sets l.initial.bytes l.at (row_bytes l.wide l.row)))
-
-abbrev pub decreases-loop-k : goal.decreases-loop-k
-decreases-loop-k l = l.wide - l.k
+abbrev pub invariant-loop-byte : goal.invariant-loop-byte
+invariant-loop-byte l =
+    let n = length l.initial.place in
+    (l.byte-index ≤ n) × (sets l.place l.byte-index (row_bytes (n - l.byte-index) l.rest) ≡ sets l.initial.place 0 (row_bytes n l.row))

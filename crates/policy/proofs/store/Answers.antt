@@ -1,10 +1,11 @@
--- The words stored so far and those still to store are together the value, and no other word of the policy is left.
+-- The rows stored so far and those still to store are together the value's, and no other word of the policy is left.
 use native.Mathlib.Omega.{arith}
-use mathlib.Core.Path.{◌≡◌, refl, sym, ◌∙◌}
-use lib.ListN.{length, drop}
+use mathlib.Core.Path.{◌≡◌, ◌∙◌}
+use Prim.Native.Nat.{◌/◌, ◌<◌}
+use lib.ListN.{drop}
 use Rattle.beliefs.specs.Policy.{rows_of, rows_read}
 use Rattle.policy.proofs.Accepted.{accepted}
-use Rattle.policy.proofs.Value.{store_turn, stored, all_stored}
+use Rattle.policy.proofs.Value.{length_lent, store_turn, stored, all_stored}
 use Rattle.policy.proofs.store.Goals as goal
 use Rattle.policy.proofs.store.Goals.{After-width-wide}
 
@@ -22,9 +23,6 @@ rows_are c =
 pub header-h-requires : goal.header-h-requires
 header-h-requires c = (accepted _ c.requires).headed
 
-pub loop-s-init : goal.loop-s-init
-loop-s-init c = (omega arith, refl)
-
 pub row_in-requires : goal.row_in-requires
 row_in-requires c =
     let a = accepted _ c.requires in (
@@ -40,18 +38,18 @@ row_in-requires c =
 pub loop-s-preserved : goal.loop-s-preserved
 loop-s-preserved c =
     let at_loop = c.loop-s in
-    let a = c.args in
-    let turn = store_turn at_loop.policy a.bytes.now at_loop.s c.loop-s-test.true in
-    (omega arith, rw (c.row_in.ensures, rows_are (goal.at.loop-s-preserved c).After-width-wide) (turn ∙ at_loop.invariant.1))
+    let more : at_loop.s < 32 = omega (arith, length_lent c.args.policy.now (c.header-h.result / 32768) c.head_signers-rows.result c.head_targets-n.result c.told-policy) in
+    rw (c.row_in.ensures, rows_are (goal.at.loop-s-preserved c).After-width-wide) (store_turn at_loop.row-items c.args.bytes.now at_loop.s more ∙ at_loop.invariant)
 
 pub returns : goal.returns
 returns c =
     let a = c.args in
-    let e : c.loop-s.s ≡ 32 = omega arith in
-    let l : length a.policy.now ≡ 35 = omega arith in
-    sym (stored c.loop-s.policy _ c.loop-s.s e) ∙ c.loop-s.invariant.1
-    ∙ rw (
+    let at_loop = c.loop-s in
+    let long = length_lent a.policy.now (c.header-h.result / 32768) c.head_signers-rows.result c.head_targets-n.result c.told-policy in
+    let rows = stored at_loop.row-items _ a.bytes.now at_loop.s long (omega (arith, long)) at_loop.invariant in
+    rw (
+      rows,
       c.head_targets-n.ensures,
       c.head_signers-rows.ensures,
       c.header-h.ensures,
-    ) (all_stored a.policy.now a.bytes.now l)
+    ) (all_stored a.policy.now a.bytes.now c.told-policy)

@@ -1,21 +1,17 @@
 -- Without a frame nothing is asked; else the verdict is what was found.
-use borrow.Author.Tests.{eq-eqb, ne_eqb}
-use mathlib.Core.Path.{◌≡◌, refl, ap, ◌∙◌}
+use mathlib.Core.Path.{refl}
+use Rattle.std.proofs.lemmas.Result.{err_from_is_err_and}
 use Rattle.answers.proofs.Given.{gives}
-use Rattle.words.specs.Words.{framed, barred}
-use Rattle.record.specs.Layout.{depth}
+use Rattle.answers.proofs.Refusals.{some_number}
+use Rattle.words.specs.Words.{barred}
 use Rattle.record.proofs.ask.Goals as goal
-use Rattle.record.proofs.ask.Goals.{After-framed-number}
 
-tested : (c : goal.After-framed-number) → c.framed-number.result ≡ framed (depth c.args.state.now)
-tested c = c.framed-number.ensures ∙ ap framed c.depth.ensures
-
-pub returns-then-number-ne-ACCEPTED : goal.returns-then-number-ne-ACCEPTED
+pub returns-in_err-framed : goal.returns-in_err-framed
 unfolding barred
-returns-then-number-ne-ACCEPTED c =
-    rw (← tested (goal.at.returns-then-number-ne-ACCEPTED c).After-framed-number, ne_eqb _ _ c.if-number-ne-ACCEPTED.true) (gives c.refused.ensures refl)
+returns-in_err-framed c =
+    let p = err_from_is_err_and c.from_residual.result c.from_residual.ensures.1 in
+    rw (p.1, p.2, ← c.depth.ensures, ← c.in_err-framed.ensures, some_number c.in_err-framed.field-0.0) (gives refl refl)
 
 pub returns : goal.returns
 unfolding barred
-returns c =
-    rw (← tested (goal.at.returns c).After-framed-number, eq-eqb _ _ c.if-number-ne-ACCEPTED.false, ← c.granted-given.ensures) (gives c.verdict.ensures refl)
+returns c = rw (← c.depth.ensures, ← c.in_ok-framed.ensures, ← c.granted.ensures, c.verdict.ensures) (gives refl refl)

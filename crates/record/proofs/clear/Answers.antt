@@ -1,14 +1,13 @@
--- After i turns the first i words from the frame's signer on are zero.
-use mathlib.Core.Path.{◌≡◌, refl, sym}
+-- The words from the frame's signer on are written at once, and every one of them is zero.
+use mathlib.Core.Path.{refl, ap, ◌∙◌}
 use native.Mathlib.Omega.{arith}
-use Rattle.record.proofs.Frames.{filled_none, filled_more}
+use Rattle.record.specs.Layout.{frame_from, filled}
+use Rattle.record.proofs.Frames.{part_filled}
 use Rattle.record.proofs.clear.Goals as goal
 
-pub loop-i-init : goal.loop-i-init
-loop-i-init c = (sym (filled_none _ _ _), omega arith)
-
-pub loop-i-preserved : goal.loop-i-preserved
-loop-i-preserved c = (filled_more _ _ _ _ _ _ _ (omega arith) c.loop-i.invariant.0 refl, omega arith)
-
 pub returns : goal.returns
-returns c = let e : c.loop-i.i ≡ 65 = omega arith in rw e at c.loop-i.invariant.0
+returns c =
+    let s = c.args.state.now in
+    part_filled c.frame_from-at.result (λ i. 0) s c.fill.new.self 65 _ (omega arith) (omega arith) (omega arith)
+    (λ i l. c.fill.ensures.clones i 0 (omega arith) refl)
+    ∙ ap (λ at. filled at (λ i. 0) 65 s) (c.frame_from-at.ensures ∙ ap frame_from c.newest.ensures)

@@ -27,29 +27,26 @@ is_held c =
     rw (← c.held-lengths.ensures) c.has.ensures
 
 pub loop-k-init : goal.loop-k-init
-loop-k-init c = (omega arith, (each_none _, λ i l. absurd (omega arith)))
+loop-k-init c = (each_none _, λ i l. absurd (omega arith))
 
 pub returns-then-not-meet : goal.returns-then-not-meet
 returns-then-not-meet c =
-    sym (tried_barred _ _ _ _ c.loop-k.invariant.1.1 (sym (is_permitted (goal.at.returns-then-not-meet c).After-meet) ∙ c.if-not-meet.true))
+    sym (tried_barred _ _ _ _ c.loop-k.invariant.1 (sym (is_permitted (goal.at.returns-then-not-meet c).After-meet) ∙ c.if-not-meet.true))
 
 pub returns-then-has : goal.returns-then-has
 returns-then-has c =
     sym
     (tried_found _ _ _ _
     (omega arith)
-    c.loop-k.invariant.1.0
+    c.loop-k.invariant.0
     (sym (is_permitted (goal.at.returns-then-has c).After-meet) ∙ c.if-not-meet.false)
     (sym (is_held (goal.at.returns-then-has c).After-has) ∙ c.if-has.true))
 
 pub loop-k-preserved : goal.loop-k-preserved
 loop-k-preserved c = (
-  omega arith,
-  (
-    each_more _ _ c.loop-k.invariant.1.0 (sym (is_permitted (goal.at.loop-k-preserved c).After-meet) ∙ c.if-not-meet.false),
-    below_more _ _ c.loop-k.invariant.1.1 (sym (is_held (goal.at.loop-k-preserved c).After-has) ∙ c.if-has.false),
-  ),
+  each_more _ _ c.loop-k.invariant.0 (sym (is_permitted (goal.at.loop-k-preserved c).After-meet) ∙ c.if-not-meet.false),
+  below_more _ _ c.loop-k.invariant.1 (sym (is_held (goal.at.loop-k-preserved c).After-has) ∙ c.if-has.false),
 )
 
 pub returns : goal.returns
-returns c = sym (tried_none _ _ _ (λ i l. c.loop-k.invariant.1.1 i (omega arith)))
+returns c = sym (tried_none _ _ _ (λ i l. c.loop-k.invariant.1 i (omega arith)))

@@ -6,14 +6,12 @@ use Rattle.record.proofs.Frames.{filled_none, filled_more, below_held}
 use Rattle.record.proofs.hand_down.Goals as goal
 
 pub loop-t-init : goal.loop-t-init
-loop-t-init c = (sym (filled_none _ _ _), omega arith)
+loop-t-init c = sym (filled_none _ _ _)
 
 pub loop-t-preserved : goal.loop-t-preserved
 loop-t-preserved c =
-    let inv = c.loop-t.invariant in (
-      filled_more _ _ _ _ _ _ _ (omega arith) inv.0 (ap longer (rw inv.0 (below_held _ _ _ _ _ _ (omega arith) (omega arith)))),
-      omega arith,
-    )
+    let inv = c.loop-t.invariant in
+    filled_more _ _ _ _ _ _ _ (omega arith) inv (ap longer (rw inv (below_held _ _ _ _ _ _ (omega arith) (omega arith))))
 
 pub returns : goal.returns
-returns c = let e : c.loop-t.t ≡ 64 = omega arith in rw e at c.loop-t.invariant.0
+returns c = let e : c.loop-t.t ≡ 64 = omega arith in rw e at c.loop-t.invariant

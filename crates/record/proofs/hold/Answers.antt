@@ -1,34 +1,27 @@
 -- Without a frame nothing is done. The index is the definition's; a target over 63 leaves the words as they are.
-use borrow.Author.Tests.{lt-ltb, le-ltb, eq-eqb, ne_eqb}
+use borrow.Author.Tests.{lt-ltb, le-ltb}
 use mathlib.Core.Path.{◌≡◌, refl, ap, ◌∙◌}
+use native.Mathlib.Omega.{arith}
+use Rattle.std.proofs.lemmas.Result.{err_from_is_err_and}
 use Rattle.answers.proofs.Given.{gives}
+use Rattle.answers.proofs.Refusals.{some_number}
 use Rattle.words.specs.Words.{framed}
-use Rattle.record.specs.Layout.{depth}
+use Rattle.record.specs.Does.{held_in}
 use Rattle.record.proofs.hold.Goals as goal
-use Rattle.record.proofs.hold.Goals.{After-framed-number}
+use Rattle.record.proofs.hold.Goals.{then-t-lt-TARGETS, else-t-lt-TARGETS}
 
-tested : (c : goal.After-framed-number) → c.framed-number.result ≡ framed (depth c.args.state.now)
-tested c = c.framed-number.ensures ∙ ap framed c.depth.ensures
+pub returns-in_err-framed : goal.returns-in_err-framed
+returns-in_err-framed c =
+    let p = err_from_is_err_and c.from_residual.result c.from_residual.ensures.1 in
+    rw (p.1, p.2, ← c.depth.ensures, ← c.in_err-framed.ensures, some_number c.in_err-framed.field-0.0) (gives refl refl)
 
-pub returns-then-number-ne-ACCEPTED : goal.returns-then-number-ne-ACCEPTED
-returns-then-number-ne-ACCEPTED c =
-    rw (← tested (goal.at.returns-then-number-ne-ACCEPTED c).After-framed-number, ne_eqb _ _ c.if-number-ne-ACCEPTED.true) (gives c.refused.ensures refl)
-
-pub returns-then-target-ge-TARGETS : goal.returns-then-target-ge-TARGETS
-returns-then-target-ge-TARGETS c =
-    rw (
-      ← tested (goal.at.returns-then-target-ge-TARGETS c).After-framed-number,
-      eq-eqb _ _ c.if-number-ne-ACCEPTED.false,
-      le-ltb _ 64 c.if-target-ge-TARGETS.true,
-    ) (gives c.done.ensures refl)
+-- the word is stored where the target has one
+stored : (c : goal.After-done) → c.if-t-lt-TARGETS.state ≡ held_in c.args.target c.args.word c.args.state.now
+stored c = elim c.if-t-lt-TARGETS.branch [
+  | then-t-lt-TARGETS w ↦
+      rw (lt-ltb c.args.target 64 (omega arith), ← c.from-t.ensures, ← w.newest.ensures, ← w.words_from.ensures) w.state-is
+  | else-t-lt-TARGETS w ↦ rw (le-ltb c.args.target 64 (omega arith)) w.state-is
+]
 
 pub returns : goal.returns
-returns c =
-    rw (
-      ← tested (goal.at.returns c).After-framed-number,
-      eq-eqb _ _ c.if-number-ne-ACCEPTED.false,
-      lt-ltb _ 64 c.if-target-ge-TARGETS.false,
-      ← c.newest.ensures,
-      ← c.words_from-first.ensures,
-    )
-    (gives c.done-2.ensures refl)
+returns c = rw (← (c.in_ok-framed.ensures ∙ ap framed c.depth.ensures), c.done.ensures) (gives refl (stored c))

@@ -1,32 +1,25 @@
 -- Without a frame nothing is done; else the newest frame's words are cleared, and then the depth is one less.
-use borrow.Author.Tests.{eq-eqb, ne_eqb}
-use mathlib.Core.Path.{◌≡◌, refl, sym, ap, ap₂, ◌∙◌}
-use mathlib.Core.Logic.{◌≢◌}
+use mathlib.Core.Path.{refl, sym, ap, ap₂, ◌∙◌}
 use mathlib.Core.List.{List}
 use Prim.Native.Nat.{ℕ, ◌-◌}
 use native.Mathlib.Omega.{arith}
 use lib.ListN.{set}
+use Rattle.std.proofs.lemmas.Result.{err_from_is_err_and}
 use Rattle.answers.proofs.Given.{gives}
+use Rattle.answers.proofs.Refusals.{some_number}
 use Rattle.words.specs.Words.{framed}
 use Rattle.words.proofs.Words.{some_frame}
-use Rattle.record.specs.Layout.{depth}
 use Rattle.record.proofs.leave.Goals as goal
-use Rattle.record.proofs.leave.Goals.{After-framed-number, Else-number-ne-ACCEPTED}
 
-tested : (c : goal.After-framed-number) → c.framed-number.result ≡ framed (depth c.args.state.now)
-tested c = c.framed-number.ensures ∙ ap framed c.depth-d.ensures
-
-there : (c : goal.Else-number-ne-ACCEPTED) → c.depth-d.result ≢ 0
-there c = some_frame _ (sym c.framed-number.ensures ∙ c.if-number-ne-ACCEPTED.false)
-
-pub returns-then-number-ne-ACCEPTED : goal.returns-then-number-ne-ACCEPTED
-returns-then-number-ne-ACCEPTED c =
-    rw (← tested (goal.at.returns-then-number-ne-ACCEPTED c).After-framed-number, ne_eqb _ _ c.if-number-ne-ACCEPTED.true) (gives c.refused.ensures refl)
+pub returns-in_err-framed : goal.returns-in_err-framed
+returns-in_err-framed c =
+    let p = err_from_is_err_and c.from_residual.result c.from_residual.ensures.1 in
+    rw (p.1, p.2, ← c.depth-d.ensures, ← c.in_err-framed.ensures, some_number c.in_err-framed.field-0.0) (gives refl refl)
 
 pub overflow_sub-state : goal.overflow_sub-state
-overflow_sub-state c = let some = there (goal.at.overflow_sub-state c).Else-number-ne-ACCEPTED in omega arith
+overflow_sub-state c = let some = some_frame _ (sym c.in_ok-framed.ensures) in omega arith
 
 pub returns : goal.returns
 returns c =
-    rw (← tested (goal.at.returns c).After-framed-number, eq-eqb _ _ c.if-number-ne-ACCEPTED.false)
-    (gives c.done.ensures (ap₂ (λ (l : List ℕ) (d : ℕ). set l 0 (d - 1)) c.clear.ensures c.depth-d.ensures))
+    rw (← (c.in_ok-framed.ensures ∙ ap framed c.depth-d.ensures), c.done.ensures)
+    (gives refl (ap₂ (λ (l : List ℕ) (d : ℕ). set l 0 (d - 1)) c.clear.ensures c.depth-d.ensures))

@@ -8,33 +8,33 @@ use Rattle.beliefs.specs.Engine.{acts, Serve}
 use Rattle.record.specs.Pictures.{by_record}
 use Rattle.record.proofs.Kept.{served}
 use Rattle.record.proofs.serve.Goals as goal
-use Rattle.record.proofs.serve.Goals.{After-whole-2-1}
+use Rattle.record.proofs.serve.Goals.{Start}
 
-out : (c : goal.After-whole-2-1) (r : Answer) (left : List ℕ)
+out : (c : goal.Start) (r : Answer) (left : List ℕ)
     → let a = c.args in
     Gives r left (acts by_record a.policy.now a.op a.state.now) → Serve by_record a.policy.now a.state.now a.op r left
 out c r left g = served _ _ (search rules) _ r left g
 
 pub returns-in-Call : goal.returns-in-Call
-returns-in-Call c = out (goal.at.returns-in-Call c).After-whole-2-1 _ _ (rw c.in-Call.is c.call.ensures)
+returns-in-Call c = out (goal.at.returns-in-Call c).Start _ _ (rw c.in-Call.is c.call.ensures)
 
 pub returns-in-Return : goal.returns-in-Return
 unfolding barred
-returns-in-Return c = out (goal.at.returns-in-Return c).After-whole-2-1 _ _ (rw c.in-Return.is c.leave.ensures)
+returns-in-Return c = out (goal.at.returns-in-Return c).Start _ _ (rw c.in-Return.is c.leave.ensures)
 
 pub returns-in-Enable : goal.returns-in-Enable
 unfolding barred
 returns-in-Enable c =
-    out (goal.at.returns-in-Enable c).After-whole-2-1 _ _ (rw c.in-Enable.is (rw (c.with.ensures, c.held.ensures) at c.hold.ensures))
+    out (goal.at.returns-in-Enable c).Start _ _ (rw c.in-Enable.is (rw (c.with.ensures, c.held.ensures) at c.hold.ensures))
 
 pub returns-in-Disable : goal.returns-in-Disable
 unfolding barred
-returns-in-Disable c = out (goal.at.returns-in-Disable c).After-whole-2-1 _ _ (rw c.in-Disable.is c.hold-in-Disable.ensures)
+returns-in-Disable c = out (goal.at.returns-in-Disable c).Start _ _ (rw c.in-Disable.is c.hold-in-Disable.ensures)
 
 pub returns-in-Revert : goal.returns-in-Revert
 unfolding barred
 returns-in-Revert c =
-    out (goal.at.returns-in-Revert c).After-whole-2-1 _ _ (rw c.in-Revert.is (rw (c.without.ensures, c.held-in-Revert.ensures) at c.hold-in-Revert.ensures))
+    out (goal.at.returns-in-Revert c).Start _ _ (rw c.in-Revert.is (rw (c.without.ensures, c.held-in-Revert.ensures) at c.hold-in-Revert.ensures))
 
 pub returns-in-Check : goal.returns-in-Check
-returns-in-Check c = out (goal.at.returns-in-Check c).After-whole-2-1 _ _ (rw c.in-Check.is c.ask.ensures)
+returns-in-Check c = out (goal.at.returns-in-Check c).Start _ _ (rw c.in-Check.is c.ask.ensures)

@@ -6,14 +6,11 @@ use Rattle.record.proofs.Frames.{filled_none, filled_more}
 use Rattle.record.proofs.start.Goals as goal
 
 pub loop-t-init : goal.loop-t-init
-loop-t-init c = (sym (filled_none _ _ _), omega arith)
+loop-t-init c = sym (filled_none _ _ _)
 
 pub loop-t-preserved : goal.loop-t-preserved
 unfolding start_word
-loop-t-preserved c = (
-  filled_more _ _ _ _ _ _ _ (omega arith) c.loop-t.invariant.0 (rw (← c.start_targets-n.ensures) c.start_word.ensures),
-  omega arith,
-)
+loop-t-preserved c = filled_more _ _ _ _ _ _ _ (omega arith) c.loop-t.invariant (rw (← c.start_targets-n.ensures) c.start_word.ensures)
 
 pub returns : goal.returns
-returns c = let e : c.loop-t.t ≡ 64 = omega arith in rw e at c.loop-t.invariant.0
+returns c = let e : c.loop-t.t ≡ 64 = omega arith in rw e at c.loop-t.invariant

@@ -1,12 +1,8 @@
 -- After t turns the first t words are those of the start.
 use mathlib.Core.Path.{◌≡◌}
-use Prim.Native.Nat.{◌-◌, ◌≤◌}
 use Rattle.record.specs.Layout.{words_from, filled}
 use Rattle.record.specs.Does.{start_word}
 use Rattle.record.proofs.start.Given as goal
 
 abbrev pub invariant-loop-t : goal.invariant-loop-t
-invariant-loop-t l = (l.state ≡ filled (words_from 0) (start_word l.policy) l.t l.initial.state) × (l.t ≤ 64)
-
-abbrev pub decreases-loop-t : goal.decreases-loop-t
-decreases-loop-t l = 64 - l.t
+invariant-loop-t l = l.state ≡ filled (words_from 0) (start_word l.policy) l.t l.initial.state

@@ -1,41 +1,23 @@
 -- The tests come in the definition's order.
-use borrow.Author.Tests.{lt-ltb, le-ltb, eq-eqb, ne_eqb}
-use native.Mathlib.Omega.{arith}
-use mathlib.Core.Path.{◌≡◌, sym, ◌∙◌}
-use mathlib.Core.Bool.{true, false}
-use Prim.Native.Nat.{◌/◌, ◌%◌}
-use lib.Dec.{eqb, ltb}
-use Rattle.beliefs.specs.Policy.{refusal}
+use mathlib.Core.Path.{◌∙◌}
+use Rattle.std.proofs.lemmas.Result.{err_from_is_err_and}
+use Rattle.answers.proofs.Numbers.{room}
+use Rattle.answers.proofs.Refusals.{first_refuses, first_passes}
 use Rattle.beliefs.specs.Trace.{run_refusal}
 use Rattle.runner.proofs.refusal.Goals as goal
-use Rattle.runner.proofs.refusal.Goals.{Else-number-ne-ACCEPTED}
 
--- past 13
-valid : (c : goal.Else-number-ne-ACCEPTED) → refusal c.args.policy.now ≡ 0
-valid c = sym c.refusal-number.ensures ∙ c.if-number-ne-ACCEPTED.false
-
-pub returns-then-number-ne-ACCEPTED : goal.returns-then-number-ne-ACCEPTED
+pub returns-in_err-refusal : goal.returns-in_err-refusal
 unfolding run_refusal
-returns-then-number-ne-ACCEPTED c = rw (← c.refusal-number.ensures, ne_eqb _ _ c.if-number-ne-ACCEPTED.true)
+returns-in_err-refusal c =
+    let p = err_from_is_err_and c.from_residual.result c.from_residual.ensures.1 in
+    rw (p.1, p.2) (first_refuses _ _ _ c.in_err-refusal.ensures)
 
-pub returns-then-len-ne0 : goal.returns-then-len-ne0
+pub returns-in_err-unless : goal.returns-in_err-unless
 unfolding run_refusal
-returns-then-len-ne0 c =
-    let odd : eqb (c.args.len % 2) 0 ≡ false = ne_eqb _ _ c.if-len-ne0.true in
-    rw (eq-eqb _ 0 (valid (goal.at.returns-then-len-ne0 c).Else-number-ne-ACCEPTED), odd)
-
-pub returns-then-room-len : goal.returns-then-room-len
-unfolding run_refusal
-returns-then-room-len c =
-    let a = c.args in
-    let even : a.len % 2 ≡ 0 = omega arith in
-    let short : ltb a.room (a.len / 2) ≡ true = lt-ltb _ _ c.if-room-len.true in
-    rw (eq-eqb _ 0 (valid (goal.at.returns-then-room-len c).Else-number-ne-ACCEPTED), eq-eqb _ 0 even, short)
+returns-in_err-unless c =
+    let p = err_from_is_err_and c.from_residual-in_err-unless.result c.from_residual-in_err-unless.ensures.1 in
+    rw (p.1, p.2) (first_passes _ _ _ c.in_ok-refusal.ensures (first_refuses _ _ _ c.in_err-unless.ensures))
 
 pub returns : goal.returns
 unfolding run_refusal
-returns c =
-    let a = c.args in
-    let even : a.len % 2 ≡ 0 = omega arith in
-    let enough : ltb a.room (a.len / 2) ≡ false = le-ltb _ _ c.if-room-len.false in
-    rw (eq-eqb _ 0 (valid (goal.at.returns c).Else-number-ne-ACCEPTED), eq-eqb _ 0 even, enough)
+returns c = first_passes _ _ _ c.in_ok-refusal.ensures (first_passes _ _ _ c.in_ok-unless.ensures (c.unless-2.ensures ∙ room _ _))
