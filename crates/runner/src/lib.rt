@@ -50,7 +50,10 @@ pub fn run<E: Engine>(policy: &Policy, trace: &[u8], answers: &mut [u8]) -> Repo
     let words = trace.len() / 2;
     let mut state = E::fresh();
     for i in 0..words {
-        let word = stop_at(i, decode_at(policy, trace, i))?;
+        let decoded = decode_at(policy, trace, i);
+        let Ok(word) = decoded else {
+            return Err(decoded.unwrap_err().at(i));
+        };
         answers[i] = stop_at(i, E::serve(policy, &mut state, word.op))?;
     }
     Ok(words as u64)
@@ -79,7 +82,10 @@ fn frame_run(
     let mut state = passed;
     let mut i = from;
     while i < words {
-        let word = stop_at(i, decode_at(policy, trace, i))?;
+        let decoded = decode_at(policy, trace, i);
+        let Ok(word) = decoded else {
+            return Err(decoded.unwrap_err().at(i));
+        };
         match stop_at(i, passed::serve(policy, state, word.op))? {
             Next::Up => {
                 answers[i] = 0;

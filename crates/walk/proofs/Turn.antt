@@ -1,8 +1,9 @@
 -- One turn of the walk: the frame above the k others decides, or the walk goes on below it. Assumes nothing.
 use mathlib.Core.Path.{◌≡◌, refl, sym, ap, ◌∙◌}
+use mathlib.Core.Logic.{◌≢◌}
 use mathlib.Core.Bool.{Bool, true, false, cond}
 use mathlib.Core.List.{List}
-use Prim.Native.Nat.{ℕ, suc, ◌+◌, ◌-◌, ◌≤◌, ◌<◌}
+use Prim.Native.Nat.{ℕ, suc, ◌+◌, ◌-◌}
 use native.Mathlib.Nat.{zero-add}
 use native.Mathlib.Omega.{arith}
 use Rattle.std.proofs.Common.{Option, Some, None}
@@ -29,35 +30,34 @@ by_decision true true d v = refl
 by_decision true false true v = refl
 by_decision true false false v = refl
 
-module _ (p : Policy) (s : List ℕ) (t d : ℕ) (total : Seen) where
+module _ (p : Policy) (s : List ℕ) (t : ℕ) (total : Seen) where
   -- no frame was looked at
-  pub start : total ≡ walk p t (frames_at s d) → total ≡ after (d - d) (walk p t (frames_at s d))
-  start e = let none : d - d ≡ 0 = omega arith in rw (none, zero-add) e
+  pub start : (d : ℕ) → total ≡ walk p t (frames_at s d) → total ≡ after 0 (walk p t (frames_at s d))
+  start d e = rw zero-add e
 
-  -- all were, and none decides
-  pub bottom : (k : ℕ) → k ≤ 0 → total ≡ after (d - k) (walk p t (frames_at s k)) → record { granted = false; looked = d } ≡ total
-  unfolding walk
-  bottom k none_left inv =
-      let e : k ≡ 0 = omega arith in
-      let all : d - 0 + 0 ≡ d = omega arith in
-      sym (inv ∙ ap (λ (n : ℕ). after (d - n) (walk p t (frames_at s n))) e ∙ ap (λ (n : ℕ). record { granted = false; looked = n }) all)
-
-  -- the frame below k decides, or the walk goes on
-  module _ (k : ℕ) (some_left : 0 < k) (few : k ≤ d) (inv : total ≡ after (d - k) (walk p t (frames_at s k))) where
-    turn : total ≡ after (d - k) (told (decided p t (frame_at s (k - 1))) (walk p t (frames_at s (k - 1))))
+  module _ (looked : ℕ) where
+    -- all were, and none decides
+    pub bottom : (k : ℕ) → k ≡ 0 → total ≡ after looked (walk p t (frames_at s k)) → record { granted = false; looked = looked } ≡ total
     unfolding walk
-    turn =
-        let e : k ≡ suc (k - 1) = omega arith in
-        inv ∙ ap (λ (n : ℕ). after (d - k) (walk p t (frames_at s n))) e ∙ ap (after (d - k)) (by_decision _ _ _ _)
+    bottom k e inv =
+        let all : looked + 0 ≡ looked = omega arith in
+        sym (inv ∙ ap (λ (n : ℕ). after looked (walk p t (frames_at s n))) e ∙ ap (λ (n : ℕ). record { granted = false; looked = n }) all)
 
-    pub decides_here : (granted : Bool) → decided p t (frame_at s (k - 1)) ≡ Some granted → record { granted = granted; looked = d - (k - 1) } ≡ total
-    decides_here granted e =
-        let v : Seen = walk p t (frames_at s (k - 1)) in
-        let more : d - k + 1 ≡ d - (k - 1) = omega arith in
-        sym (turn ∙ ap (λ (x : Option Bool). after (d - k) (told x v)) e ∙ ap (λ (n : ℕ). record { granted = granted; looked = n }) more)
+    -- the frame below k decides, or the walk goes on
+    module _ (k : ℕ) (some_left : k ≢ 0) (inv : total ≡ after looked (walk p t (frames_at s k))) where
+      turn : total ≡ after looked (told (decided p t (frame_at s (k - 1))) (walk p t (frames_at s (k - 1))))
+      unfolding walk
+      turn =
+          let e : k ≡ suc (k - 1) = omega arith in
+          inv ∙ ap (λ (n : ℕ). after looked (walk p t (frames_at s n))) e ∙ ap (after looked) (by_decision _ _ _ _)
 
-    pub onward : decided p t (frame_at s (k - 1)) ≡ None → total ≡ after (d - (k - 1)) (walk p t (frames_at s (k - 1)))
-    onward e =
-        let v : Seen = walk p t (frames_at s (k - 1)) in
-        let more : d - k + suc v.looked ≡ d - (k - 1) + v.looked = omega arith in
-        turn ∙ ap (λ (x : Option Bool). after (d - k) (told x v)) e ∙ ap (λ (n : ℕ). record { granted = v.granted; looked = n }) more
+      pub decides_here : (granted : Bool) → decided p t (frame_at s (k - 1)) ≡ Some granted → record { granted = granted; looked = looked + 1 } ≡ total
+      decides_here granted e =
+          let v : Seen = walk p t (frames_at s (k - 1)) in
+          sym (turn ∙ ap (λ (x : Option Bool). after looked (told x v)) e)
+
+      pub onward : decided p t (frame_at s (k - 1)) ≡ None → total ≡ after (looked + 1) (walk p t (frames_at s (k - 1)))
+      onward e =
+          let v : Seen = walk p t (frames_at s (k - 1)) in
+          let more : looked + suc v.looked ≡ looked + 1 + v.looked = omega arith in
+          turn ∙ ap (λ (x : Option Bool). after looked (told x v)) e ∙ ap (λ (n : ℕ). record { granted = v.granted; looked = n }) more

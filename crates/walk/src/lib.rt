@@ -96,24 +96,27 @@ fn decided(policy: &Policy, frame: Marked, asked: u64) -> Option<bool>
     }
 }
 
-// The walk from the newest frame to the oldest: the verdict on a target, and the frames looked at.
-#[tactic(auto, using(crate::proofs::Turn::start, crate::proofs::Turn::bottom, crate::proofs::Turn::decides_here, crate::proofs::Turn::onward))]
+// The walk from the newest frame to the oldest: the verdict on a target, and the frames looked at. A `loop` with its own count, since
+// the form that is set for this place is one that yields the two together by `break`, and a `for` yields nothing.
+#[tactic(auto, using(crate::proofs::Turn::start))]
 pub fn check(policy: &Policy, state: &State, target: u8) -> Seen
     ensures { result ≡ walk policy.now target (frames state.now) }
 {
     let asked = bits::with(0, target);
-    let d = depth(state);
-    for k in (0..d).rev() {
-        if let Some(granted) = decided(policy, frame_at(state, k), asked) {
-            return Seen {
-                granted,
-                looked: d - k,
+    let mut left = depth(state);
+    let mut looked = 0;
+    loop {
+        if left == 0 {
+            break Seen {
+                granted: false,
+                looked,
             };
         }
-    }
-    Seen {
-        granted: false,
-        looked: d,
+        left -= 1;
+        looked += 1;
+        if let Some(granted) = decided(policy, frame_at(state, left), asked) {
+            break Seen { granted, looked };
+        }
     }
 }
 
