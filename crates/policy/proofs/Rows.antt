@@ -102,5 +102,6 @@ all_from f a (suc n) =
 pub rows_all : (n k : ℕ) (bs : List ℕ) (f : ℕ → Bool) → list_all (λ s. f (get_or (rows_of n k bs) s 0)) (range_with_len 0 n) ≡ all f (rows_of n k bs)
 rows_all n k bs f =
     let rows = rows_of n k bs in
-    all_from (λ s. f (get_or rows s 0)) 0 n ∙ each_ext (λ s. f (get_or rows (0 + s) 0)) (λ s. f (get_or rows s 0)) n (λ s l. ap (λ (i : ℕ). f (get_or rows i 0)) (zero-add s))
+    all_from (λ s. f (get_or rows s 0)) 0 n
+    ∙ each_ext (λ s. f (get_or rows (0 + s) 0)) (λ s. f (get_or rows s 0)) n (λ s l. ap (λ (i : ℕ). f (get_or rows i 0)) (zero-add s))
     ∙ sym (all_each f rows ∙ ap (each (λ s. f (get_or rows s 0))) (length_rows n k bs))

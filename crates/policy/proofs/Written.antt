@@ -29,7 +29,8 @@ pub row_written : (p : List ℕ) (n s : ℕ) → s < n → get_or (take n (drop 
 row_written p n s h = get_or-take n (drop 3 p) s 0 h ∙ get_or-drop 3 p s 0
 
 -- a row is stored from its first byte to its last: one of them, and the rest after it
-pub put_turn : (l : List ℕ) (k n w : ℕ) → k < n → sets (set l k (mirrored (w % 256))) (k + 1) (row_bytes (n - (k + 1)) (w / 256)) ≡ sets l k (row_bytes (n - k) w)
+pub put_turn : (l : List ℕ) (k n w : ℕ) → k < n
+    → sets (set l k (mirrored (w % 256))) (k + 1) (row_bytes (n - (k + 1)) (w / 256)) ≡ sets l k (row_bytes (n - k) w)
 unfolding row_bytes
 put_turn l k n w h =
     let e : n - k ≡ suc (n - (k + 1)) = omega arith in

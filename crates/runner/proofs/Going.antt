@@ -47,7 +47,8 @@ module _ (e : Engine) (p : Policy) (trace lent : List ℕ) where
     pub over : length trace ≤ 2 * i → Stops i 0
     over h = finished (step e.counts) p trace lent [] 0 i g.stack answers g.answered h
 
-    pub bad_word : 2 * i + 1 < length trace → (d : Result Held Refusal) → decoding d ≡ decoded_at p trace i → (why : Refusal) → d ≡ Err why → Stops i (number why)
+    pub bad_word : 2 * i + 1 < length trace → (d : Result Held Refusal) → decoding d ≡ decoded_at p trace i
+        → (why : Refusal) → d ≡ Err why → Stops i (number why)
     bad_word more d word why q = let n : ℕ = number why in let word : Refused n ≡ decoded_at p trace i = rw q at word in
         refused (step e.counts) p trace lent [] 0 i g.stack answers g.answered more (Refused n) word n refl (fair p trace i (Refused n) word)
 

@@ -11,7 +11,8 @@ use Rattle.runner.proofs.run as run
 use Rattle.runner.proofs.passed_run as passed_run
 
 -- for every engine
-pub run_unique : (E S : RattleType) (l : Laws E) (m : Laws S) (copied : IsCopy S) (e : Engine.Ghosts E.Denot S.Denot) (d : Dict) (c : Clone.Ghosts S.Denot) (k : Dict)
+pub run_unique : (E S : RattleType) (l : Laws E) (m : Laws S) (copied : IsCopy S)
+    (e : Engine.Ghosts E.Denot S.Denot) (d : Dict) (c : Clone.Ghosts S.Denot) (k : Dict)
     → Fixes (contracts.run.ended E S e d c k) (run.Reads.Post E S l m copied e d c k)
 run_unique _ _ _ _ _ _ _ _ _ _ _ _ _ _ _ = reported_unique (λ w. (tt, (tt, (w, tt))))
 

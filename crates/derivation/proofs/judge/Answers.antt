@@ -34,7 +34,8 @@ returns-in_err-unless c =
     let p = err_from_is_err_and c.from_residual-in_err-unless.result c.from_residual-in_err-unless.ensures.1 in
     let end = ended a.policy.now (frames a.state.now) a.target a.steps.now c.loop-i.i c.loop-i.chain (omega arith) _
     (tested (goal.at.returns-in_err-unless c).After-unless) in
-    rw (p.1, p.2, c.loop-i.invariant.1 ∙ end, ← unless_number _ _ (Err c.in_err-unless.field-0.0) c.in_err-unless.ensures, some_number c.in_err-unless.field-0.0) (record { number = refl; figure = refl })
+    let why = c.in_err-unless.field-0.0 in
+    rw (p.1, p.2, c.loop-i.invariant.1 ∙ end, ← unless_number _ _ (Err why) c.in_err-unless.ensures, some_number why) (record { number = refl; figure = refl })
 
 pub returns : goal.returns
 returns c =

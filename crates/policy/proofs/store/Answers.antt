@@ -38,8 +38,12 @@ row_in-requires c =
 pub loop-s-preserved : goal.loop-s-preserved
 loop-s-preserved c =
     let at_loop = c.loop-s in
-    let more : at_loop.s < 32 = omega (arith, length_lent c.args.policy.now (c.header-h.result / 32768) c.head_signers-rows.result c.head_targets-n.result c.told-policy) in
-    rw (c.row_in.ensures, rows_are (goal.at.loop-s-preserved c).After-width-wide) (store_turn at_loop.row-items c.args.bytes.now at_loop.s more ∙ at_loop.invariant)
+    let more : at_loop.s < 32 = omega (
+      arith,
+      length_lent c.args.policy.now (c.header-h.result / 32768) c.head_signers-rows.result c.head_targets-n.result c.told-policy,
+    ) in
+    rw (c.row_in.ensures, rows_are (goal.at.loop-s-preserved c).After-width-wide)
+    (store_turn at_loop.row-items c.args.bytes.now at_loop.s more ∙ at_loop.invariant)
 
 pub returns : goal.returns
 returns c =

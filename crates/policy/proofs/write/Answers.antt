@@ -49,8 +49,10 @@ returns-in_err-unless c =
     (record { number = refl; figure = refl; buffer = refl })
 
 pub put-requires : goal.put-requires
-put-requires c =
-    (let_in _ (sym c.in_ok-refusal.ensures), rw (← wanted (goal.at.put-requires c).After-size-wanted) (leb-true _ _ (held _ 8 (sym (passed (goal.at.put-requires c).In_ok-unless)))))
+put-requires c = (
+  let_in _ (sym c.in_ok-refusal.ensures),
+  rw (← wanted (goal.at.put-requires c).After-size-wanted) (leb-true _ _ (held _ 8 (sym (passed (goal.at.put-requires c).In_ok-unless)))),
+)
 
 pub returns : goal.returns
 unfolding writing

@@ -21,4 +21,6 @@ returns-in_err-unless c =
 
 pub returns : goal.returns
 unfolding run_refusal
-returns c = first_passes _ _ _ c.in_ok-refusal.ensures (first_passes _ _ _ (unless_number _ _ (Ok tt) c.in_ok-unless.ensures) (unless_number _ _ _ c.unless-2.ensures ∙ room _ _))
+returns c =
+    first_passes _ _ _ c.in_ok-refusal.ensures
+    (first_passes _ _ _ (unless_number _ _ (Ok tt) c.in_ok-unless.ensures) (unless_number _ _ _ c.unless-2.ensures ∙ room _ _))
