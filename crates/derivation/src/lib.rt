@@ -20,7 +20,8 @@ use policy::Policy;
 use walk::State;
 use words::Operation;
 
-// The rules, in the order of a step's two high bits.
+// The rules, in the order of a step's two high bits. A place, the six low ones, stays a number that is required to be below 64: a type
+// of places would be made at one call of each and taken apart there.
 #[derive(Clone, Copy)]
 enum Rule {
     Take,

@@ -142,7 +142,7 @@ fn deliver(line: &Line, out: &mut [u8]) -> Option<usize>
     Some(len)
 }
 
-// The policy's line. Each of these four answers how many bytes it wrote: none where the buffer is too short for the line.
+// The policy's line. Each of these four answers how many bytes it wrote, as it is promised: none where the buffer is too short.
 pub fn policy_line(policy: &Policy, out: &mut [u8]) -> usize
     ensures { Lined result out.old out.new (policy_line policy.now) }
 {

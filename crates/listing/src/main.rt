@@ -42,7 +42,8 @@ fn print_refused(rt: &impl Print, why: Refusal) -> io::Result<()> {
     rt.write_all(&line[..len])
 }
 
-// One write for each page. It stops where the text ends, or where the output takes no more.
+// One write for each page. It stops where the text ends, or where the output takes no more. A `loop`, since each page says where the
+// next one begins.
 fn print_pages(rt: &impl Print, run: &Run<'_>) -> io::Result<()> {
     let mut page = [0u8; INPUT_MOST];
     let mut place = 0;

@@ -17,7 +17,8 @@ ghost use Rattle.policy.specs.Read.{PolicyRead, cut_at};
 use answers::{Refusal, Report};
 use words::{Operation, Word};
 
-// A policy's words: start, S, N, and the rows of 32 signers.
+// A policy's words: start, S, N, and the rows of 32 signers. An array with functions beside it, and no struct with methods: C lends it
+// as 35 words, and of a struct that crosses to C each clause would have to name the field.
 pub const WORDS: usize = 35;
 
 pub type Policy = [u64; WORDS];

@@ -16,7 +16,8 @@ use engine::Engine;
 use policy::Policy;
 use words::Operation;
 
-// A state's words: the depth, and those of 63 frames.
+// A state's words: the depth, and those of 63 frames. Beside the policy in each function, and not in one struct with it: C lends the
+// two apart.
 pub const WORDS: usize = 4096;
 
 pub type State = [u64; WORDS];
@@ -42,7 +43,8 @@ fn words_from(frame: u64) -> usize
     frame_from(frame) + 1
 }
 
-// The depth, 63 where a damaged state says more.
+// The depth, 63 where a damaged state says more: as the walk's, of an array of another length. One function for both would be called
+// with the first word, and say no more than `min`.
 fn depth(state: &State) -> u64
     ensures { result ≡ depth state.now }
 {

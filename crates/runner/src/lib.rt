@@ -66,7 +66,8 @@ enum Left {
     Over(usize),
 }
 
-// The words of one frame from a position on, its callees' among them: it calls itself at a call, and comes back at a return.
+// The words of one frame from a position on, its callees' among them: it calls itself at a call, and comes back at a return. A `while`,
+// since after a call the position is where the callee's run was left, which no `for` goes to.
 fn frame_run(
     policy: &Policy,
     trace: &[u8],

@@ -19,7 +19,8 @@ use engine::Engine;
 use policy::Policy;
 use words::Operation;
 
-// A state's words: the depth, then 63 frames, bottom first, of 3 words.
+// A state's words: the depth, then 63 frames, bottom first, of 3 words. Beside the policy in each function, and not in one struct with
+// it: C lends the two apart.
 pub const WORDS: usize = 190;
 
 pub type State = [u64; WORDS];
