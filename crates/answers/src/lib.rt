@@ -78,7 +78,7 @@ pub fn verdict(granted: bool, looked: u64) -> Answer
     Ok(verdict_byte(granted, looked))
 }
 
-// The answer byte of a check: its kind, and the frames looked at in six bits.
+// The answer byte of a check: its kind, and the frames looked at in six bits. The kind is a number here, as C reads it.
 pub fn verdict_byte(granted: bool, looked: u64) -> u8
     ensures { result ≡ verdict_byte granted (looked % 64) }
 {

@@ -12,12 +12,12 @@ use Rattle.answers.proofs.Alike.{Alike, guarded_alike}
 use Rattle.words.specs.declared.Operation.{Operation}
 use Rattle.words.specs.declared.Operation.TheVariants.{Call, Return, Enable, Disable, Revert, Check}
 use Rattle.words.specs.declared.Word.{Word as Held}
-use Rattle.words.specs.Words.{Decoded, Word, Refused, framed, barred}
+use Rattle.words.specs.Words.{Word, Refused, framed, barred}
 use Rattle.words.proofs.Words.{decoded_fair, some_frame}
 use Rattle.beliefs.specs.Policy.{Policy, signers, targets, valid, refusal_in, outside_of, reading}
 use Rattle.beliefs.specs.Stack.{Frame, Stack}
 use Rattle.beliefs.specs.Trace.{does, step}
-use Rattle.beliefs.specs.Engine.{Engine, acts, Serves, Serve, worded, Works, Operate}
+use Rattle.beliefs.specs.Engine.{Engine, acts, Serve, worded, Works, Operate}
 use Rattle.beliefs.proofs.Policy.{let_in_with, not_refused_with}
 
 -- an operation of the policy is refused by 7 or 8, and then changes nothing; or it does what it does

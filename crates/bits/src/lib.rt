@@ -41,7 +41,6 @@ pub fn fits(w: u64, n: u64) -> bool
 }
 
 // Whether none of the words has a bit at n or above. One test of their bits together is quicker than one for each.
-#[tactic(auto, using(crate::proofs::Laws::below_together))]
 pub fn all_fit(words: &[u64], n: u64) -> bool
     ensures { result ≡ all_below words.now n }
 {

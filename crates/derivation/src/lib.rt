@@ -60,6 +60,8 @@ struct Chain {
     done: u64,
 }
 
+// Policy, state and target are lent or handed over by C one by one, and stay three parameters of the functions below.
+
 // Whether none of the n newest frames has the target disabled.
 fn none_disabled(state: &State, target: u8, n: u64) -> bool
     ensures { result ≡ all (λ (m : Marked). not (bit m.disabled target)) (take n (frames state.now)) }

@@ -198,7 +198,7 @@ pub fn galmuvesh_passed_revert(policy: &Policy, state: &mut State, target: u8) -
     number(moved(policy, state, Operation::Revert(target)))
 }
 
-// The frame checks a target.
+// The frame checks a target. The tail of `answered` is written out, since what is asked first is a refusal, and no answer yet.
 pub fn galmuvesh_passed_check(policy: &Policy, state: &State, target: u8, answer: &mut u8) -> u8
     ensures { Asks policy.now state.now target result answer.old answer.new }
 {

@@ -1,5 +1,6 @@
-// The C library: one export for each line of include/galmuvesh.h, each the function of `galmuvesh` that has its name, with
-// the same clause. An array crosses as a plain pointer, a slice as a pointer and then a length.
+// The C library: one export for each line of include/galmuvesh.h, each the function of `galmuvesh` that has its name, with the same
+// clause: they stand in a crate of their own, since no crate may stand on a static library. An array crosses as a plain pointer, a slice
+// as a pointer and then a length.
 #![tactic(auto)]
 
 ghost use Rattle.std.specs.Prelude.{◌≡◌, true, false, length};

@@ -111,7 +111,7 @@ run_text p trace lent left r room h t k =
     ∙ same ∙ listed_same p trace lent a.written a.number (omega (arith, answered.few))
     ∙ counted ∙ ap (listed_run p trace) (run_room p trace (length lent) h)
 
--- the text for an input, as the program comes to it: from the promises of `policy::read` and `runner::walk_run`
+-- the text for an input, as the program comes to it: from the promises of `policy::read` and `runner::run`
 module _ (input : List ℕ) where
   abbrev trace : List ℕ
   trace = drop (cut_at input) input

@@ -97,7 +97,7 @@ fn policy_text(policy: &Policy) -> Line
     line
 }
 
-// A check's line.
+// A check's line. The answer is a byte with its kind, as C reads it and as a page takes it.
 fn check_text(index: usize, target: u8, answer: u8) -> Line
     ensures { result.bytes ≡ check_line index target answer }
 {

@@ -11,7 +11,7 @@ use std::io;
 use std::io::Read;
 use walk::Walk;
 
-// The longest input, which is also the length of the buffers for input and output.
+// The longest input, which is also the length of the buffers for input and output: arrays, since the program takes no memory but its own.
 const INPUT_MOST: usize = 65536;
 
 // Reads until the buffer is full, the input ends or a read fails, which counts as the end: the bytes that it read, which the input

@@ -275,7 +275,7 @@ pub fn read(bytes: &[u8], policy: &mut Policy) -> Result<(), Refusal>
     Ok(())
 }
 
-// The header of a valid policy as one number.
+// The header of a valid policy as one number: a sum, as the definition has it, and shifts would read no plainer.
 #[tactic(auto, using(beliefs::proofs::Policy::ranges))]
 fn headed(policy: &Policy) -> u16
     requires { valid policy.now ≡ true }

@@ -31,7 +31,7 @@ fn decode_at(policy: &Policy, trace: &[u8], index: usize) -> Result<Word, Refusa
     policy::decode(policy, words::word_at(trace, index), index)
 }
 
-// What is refused at a word of an index stops there.
+// What is refused at a word of an index stops there. `map_err` with a closure would say it too, and leave a fact that a proof cannot cite.
 fn stop_at<T>(index: usize, given: Result<T, Refusal>) -> Result<T, Stop>
     ensures { result ≡ stopped_at index given }
 {
@@ -41,7 +41,8 @@ fn stop_at<T>(index: usize, given: Result<T, Refusal>) -> Result<T, Stop>
     }
 }
 
-// A run by an engine: 13, 1, 9, then word by word, up to the first that is refused.
+// A run by an engine: 13, 1, 9, then word by word, up to the first that is refused. A decoded word is taken apart by let .. else, the
+// form that is set for this place; policy, trace and answers are lent by C one by one.
 pub fn run<E: Engine>(policy: &Policy, trace: &[u8], answers: &mut [u8]) -> Report
     ensures { Reports (report_of result) answers.old answers.new
         (run E.by.counts policy.now trace.now (length answers.old)) }

@@ -1,6 +1,5 @@
 -- Without room for what is shown, 9; the rest the search finds by the laws of the front door (Judged).
 use mathlib.Core.Path.{◌≡◌, refl, sym}
-use Prim.Native.Nat.{ℕ}
 use Rattle.std.specs.Prelude.{Ok}
 use Rattle.std.proofs.lemmas.Result.{err_from_is_err_and}
 use Rattle.answers.specs.Numbers.{forbidden, unless}

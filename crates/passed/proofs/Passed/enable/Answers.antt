@@ -1,5 +1,0 @@
--- `bits::with` says what the new word is, and the other three are the old ones.
-use Rattle.passed.proofs.Passed.enable.Goals as goal
-
-pub returns : goal.returns
-returns c = rw c.with.ensures

@@ -1,8 +1,0 @@
--- Under a full start the N lowest bits, else none.
-use Rattle.policy.proofs.start_marks.Goals as goal
-
-pub returns-then-is_full : goal.returns-then-is_full
-returns-then-is_full c = rw (← c.is_full.ensures, c.if-is_full.true, ← c.targets.ensures) c.ones.ensures
-
-pub returns-else-is_full : goal.returns-else-is_full
-returns-else-is_full c = rw (← c.is_full.ensures, c.if-is_full.false)
