@@ -252,7 +252,10 @@ fn unused_above(state: &State) -> bool
 pub fn valid(policy: &Policy, state: &State) -> bool
     ensures { result ≡ fits policy.now state.now }
 {
-    state[0] <= words::DEPTH_MOST && frames_fit(policy, state) && unused_above(state)
+    if words::DEPTH_MOST < state[0] {
+        return false;
+    }
+    frames_fit(policy, state) && unused_above(state)
 }
 
 // The walk as an engine.
