@@ -5,7 +5,7 @@ ghost use Rattle.std.specs.Prelude.{◌≡◌, List, ℕ, replicate};
 ghost use Rattle.answers.specs.Answer.{answer_of};
 ghost use Rattle.beliefs.specs.Engine as engines;
 
-use answers::Answer;
+use answers::{Answer, Refusal};
 use policy::Policy;
 use words::Operation;
 
@@ -29,13 +29,17 @@ pub trait Engine {
     // One operation that the caller has decoded: 7, 8.
     fn serve(policy: &Policy, state: &mut Self::State, op: Operation) -> Answer
         ensures { engines.Serve by policy.now (words state.old) op (answer_of result) (words state.new) };
+
+    // A state is its words, with nothing beside them: so an answer and the words left are all that is left.
+    ghost apart: { (s t : Self.State) → words s ≡ words t → s ≡ t };
 }
 
-// One operation word: 13, 14, 4, 3, 5 or 6, 7, 8, else the answer byte.
+// One operation word: 13, 14, 4, 3, 5 or 6, 7, 8, else the answer byte. 14 is asked where 13 lets the policy in, and not before.
 pub fn operate<E: Engine>(policy: &Policy, state: &mut E::State, word: u16) -> Answer
     ensures { engines.Works E.by policy.now (E.words state.old) word (answer_of result) (E.words state.new) }
 {
-    policy::refusal_in(policy, E::valid(policy, state))?;
+    policy::refusal(policy)?;
+    answers::unless(E::valid(policy, state), Refusal::BadState)?;
     let word = policy::decode(policy, word, 0)?;
     E::serve(policy, state, word.op)
 }

@@ -281,6 +281,8 @@ impl Engine for Record {
 
     ghost words = { λ s. s };
 
+    ghost apart = { λ s t same. same };
+
     fn fresh() -> State {
         [0; WORDS]
     }

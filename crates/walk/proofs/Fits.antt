@@ -39,9 +39,12 @@ module _ (p s : List ℕ) where
         below_or (frame_at s k).enabled (frame_at s k).disabled (targets p),
       )
 
-  pub one_not_in_use : (k d : ℕ) → k < d → signers p ≤ (frame_at s k).signer → false ≡ each (in_use p s) d
+  pub not_in_use : (k : ℕ) → signers p ≤ (frame_at s k).signer → in_use p s k ≡ false
   unfolding in_use
-  one_not_in_use k d l bad = sym (each_false (in_use p s) d k l (rw (le-ltb _ _ bad)))
+  not_in_use k l = rw (le-ltb _ _ l)
+
+  pub one_not_in_use : (k d : ℕ) → k < d → signers p ≤ (frame_at s k).signer → false ≡ each (in_use p s) d
+  one_not_in_use k d l bad = sym (each_false (in_use p s) d k l (not_in_use k bad))
 
 -- three words to a frame
 each_three : (f : ℕ → Bool) (n : ℕ) → each f (3 * n) ≡ each (λ k. f (3 * k) && (f (3 * k + 1) && f (3 * k + 2))) n

@@ -268,6 +268,8 @@ impl Engine for Walk {
 
     ghost words = { λ s. s };
 
+    ghost apart = { λ s t same. same };
+
     fn fresh() -> State {
         [0; WORDS]
     }
