@@ -1,26 +1,47 @@
 // A command, read from its text: a space, its word, and its list.
 
-use std::alloc::{AllocError, Global};
+ghost use Rattle.std.specs.Prelude.{◌≤◌, length, IsSome, IfSome};
+
+use arrayvec::ArrayVec;
 use std::str;
 
 // The most values of a list: as many as a belief record has.
 const VALUES_MOST: usize = record::WORDS;
 
-#[derive(Debug, Drop)]
-pub(crate) enum Command {
+// The values of a list.
+type Values<T> = ArrayVec<T, VALUES_MOST>;
+
+// Room for the values of a command, lent to one after the other: so no memory is asked for.
+#[derive(Drop)]
+pub(crate) struct Lists {
+    words: Values<u64>,
+    bytes: Values<u8>,
+}
+
+impl Lists {
+    pub(crate) fn new() -> Self {
+        Lists {
+            words: Values::new(),
+            bytes: Values::new(),
+        }
+    }
+}
+
+#[derive(Clone, Copy, Debug)]
+pub(crate) enum Command<'a> {
     // These say what stands: a policy, a state, and a room or a target, which is none where the list is not one number.
-    Policy(Vec<u64>),
-    Walk(Vec<u64>),
-    Record(Vec<u64>),
-    Passed(Vec<u64>),
+    Policy(&'a [u64]),
+    Walk(&'a [u64]),
+    Record(&'a [u64]),
+    Passed(&'a [u64]),
     Number(Option<u64>),
     // These ask something of it: by bytes, by the room of a buffer, by a signer or a target.
-    After(Vec<u8>),
-    Walks(Vec<u8>),
-    Records(Vec<u8>),
-    Read(Vec<u8>),
-    Run(Vec<u8>),
-    Steps(Vec<u8>),
+    After(&'a [u8]),
+    Walks(&'a [u8]),
+    Records(&'a [u8]),
+    Read(&'a [u8]),
+    Run(&'a [u8]),
+    Steps(&'a [u8]),
     Write(Option<u64>),
     Derive(Option<u64>),
     Call(u8),
@@ -30,97 +51,75 @@ pub(crate) enum Command {
     Check(u8),
 }
 
-// Why a text gives no command.
-#[derive(Debug, Drop)]
-pub(crate) enum ParseError {
-    Unknown,
-    Memory(AllocError),
-}
-
-impl From<AllocError> for ParseError {
-    fn from(error: AllocError) -> Self {
-        ParseError::Memory(error)
-    }
-}
-
-impl Command {
-    pub(crate) fn parse(alloc: Global, text: &[u8]) -> Result<Self, ParseError> {
+impl<'a> Command<'a> {
+    // None where the text is not one, as where there is none.
+    pub(crate) fn parse(text: &[u8], lists: &'a mut Lists) -> Option<Self>
+        ensures { IsSome result → 1 ≤ length text.now }
+    {
         let text = str::from_utf8(text)
-            .ok()
-            .and_then(|text| text.strip_prefix(' '))
-            .ok_or(ParseError::Unknown)?
+            .ok()?
+            .strip_prefix(' ')?
             .trim_start_matches(' ');
         let (word, list) = text.split_once(' ').unwrap_or((text, ""));
+        let Lists { words, bytes } = lists;
         // Zeros before a word count for nothing, as those before a number.
-        Ok(match word.trim_start_matches('0') {
-            "policy" => Command::Policy(words(alloc, list)?),
-            "walk" => Command::Walk(words(alloc, list)?),
-            "record" => Command::Record(words(alloc, list)?),
-            "passed" => Command::Passed(words(alloc, list)?),
-            "room" | "target" => Command::Number(number(alloc, list)?),
-            "after" => Command::After(bytes(alloc, list)?),
-            "walks" => Command::Walks(bytes(alloc, list)?),
-            "records" => Command::Records(bytes(alloc, list)?),
-            "read" => Command::Read(bytes(alloc, list)?),
-            "run" => Command::Run(bytes(alloc, list)?),
-            "steps" => Command::Steps(bytes(alloc, list)?),
-            "write" => Command::Write(number(alloc, list)?),
-            "derive" => Command::Derive(number(alloc, list)?),
-            "call" => Command::Call(index(alloc, list)?),
-            "enable" => Command::Enable(index(alloc, list)?),
-            "disable" => Command::Disable(index(alloc, list)?),
-            "revert" => Command::Revert(index(alloc, list)?),
-            "check" => Command::Check(index(alloc, list)?),
-            _ => return Err(ParseError::Unknown),
+        Some(match word.trim_start_matches('0') {
+            "policy" => Command::Policy(values(list, decimal, words)?),
+            "walk" => Command::Walk(values(list, decimal, words)?),
+            "record" => Command::Record(values(list, decimal, words)?),
+            "passed" => Command::Passed(values(list, decimal, words)?),
+            "room" | "target" => Command::Number(number(list, words)?),
+            "after" => Command::After(values(list, hexadecimal, bytes)?),
+            "walks" => Command::Walks(values(list, hexadecimal, bytes)?),
+            "records" => Command::Records(values(list, hexadecimal, bytes)?),
+            "read" => Command::Read(values(list, hexadecimal, bytes)?),
+            "run" => Command::Run(values(list, hexadecimal, bytes)?),
+            "steps" => Command::Steps(values(list, hexadecimal, bytes)?),
+            "write" => Command::Write(number(list, words)?),
+            "derive" => Command::Derive(number(list, words)?),
+            "call" => Command::Call(index(list, words)?),
+            "enable" => Command::Enable(index(list, words)?),
+            "disable" => Command::Disable(index(list, words)?),
+            "revert" => Command::Revert(index(list, words)?),
+            "check" => Command::Check(index(list, words)?),
+            _ => return None,
         })
     }
 }
 
-fn words(alloc: Global, list: &str) -> Result<Vec<u64>, ParseError> {
-    values(alloc, list, decimal)
-}
-
-fn bytes(alloc: Global, list: &str) -> Result<Vec<u8>, ParseError> {
-    values(alloc, list, hexadecimal)
-}
-
 // A list's one number: none where it has none or more.
-fn number(alloc: Global, list: &str) -> Result<Option<u64>, ParseError> {
-    match words(alloc, list)?.as_slice() {
-        [number] => Ok(Some(*number)),
-        _ => Ok(None),
+fn number(list: &str, words: &mut Values<u64>) -> Option<Option<u64>> {
+    match values(list, decimal, words)? {
+        [number] => Some(Some(*number)),
+        _ => Some(None),
     }
 }
 
 // A signer or a target, which a host gives as a byte.
-fn index(alloc: Global, list: &str) -> Result<u8, ParseError> {
-    number(alloc, list)?
-        .and_then(|number| u8::try_from(number).ok())
-        .ok_or(ParseError::Unknown)
+fn index(list: &str, words: &mut Values<u64>) -> Option<u8> {
+    u8::try_from(number(list, words)??).ok()
 }
 
-// A list's values, parted by spaces: `x62` says how often the one before it stands in all.
-fn values<T: Copy, F: Fn(&str) -> Option<T>>(
-    alloc: Global,
+// A list's values, parted by spaces: `x62` says how often the one before it stands in all. None where a value is not one, or has no room.
+fn values<'a, T: Copy + Default, F: Fn(&str) -> Option<T>>(
     list: &str,
     parse: F,
-) -> Result<Vec<T>, ParseError>
+    values: &'a mut Values<T>,
+) -> Option<&'a [T]>
     requires { F.IsAlwaysCallable parse }
+    ensures { IfSome result (λ list. length list.now ≤ 4096) }
 {
-    let mut values = Vec::new(alloc);
+    values.clear();
     for token in list.split(' ').filter(|token| !token.is_empty()) {
-        let stands = match token.strip_prefix('x') {
-            Some(times) => values.pop().zip(decimal(times).filter(|times| *times != 0)),
-            None => parse(token).map(|value| (value, 1)),
+        let (value, more) = match token.strip_prefix('x') {
+            Some(times) => (*values.last()?, decimal(times)?.checked_sub(1)?),
+            None => (parse(token)?, 1),
         };
-        let (value, times) = stands.ok_or(ParseError::Unknown)?;
-        let len = values.len().saturating_add(times as usize);
-        if len > VALUES_MOST {
-            return Err(ParseError::Unknown);
+        for _ in 0..more {
+            values.try_push(value).ok()?;
         }
-        values.resize(len, value)?;
     }
-    Ok(values)
+    Some(values.as_slice())
 }
 
 // A number in decimal. The library would take a sign before it.

@@ -55,34 +55,34 @@ impl Station {
         }
     }
 
-    pub(crate) fn obey(&mut self, rt: &impl Print, command: Command) -> io::Result<()> {
+    pub(crate) fn obey(&mut self, rt: &impl Print, command: Command<'_>) -> io::Result<()> {
         match command {
-            Command::Policy(words) => set(rt, &mut self.policy, &words),
-            Command::Walk(words) => set(rt, &mut self.walk, &words),
-            Command::Record(words) => set(rt, &mut self.record, &words),
-            Command::Passed(words) => set(rt, &mut self.passed, &words),
+            Command::Policy(words) => set(rt, &mut self.policy, words),
+            Command::Walk(words) => set(rt, &mut self.walk, words),
+            Command::Record(words) => set(rt, &mut self.record, words),
+            Command::Passed(words) => set(rt, &mut self.passed, words),
             Command::Number(number) => {
                 self.number = number;
                 Ok(())
             }
-            Command::After(bytes) => self.after(rt, &bytes),
+            Command::After(bytes) => self.after(rt, bytes),
             Command::Walks(bytes) => self.ask(
                 rt,
                 Engine::Walk,
                 &self.walk,
-                &bytes,
+                bytes,
                 galmuvesh_walk_operate,
             ),
             Command::Records(bytes) => self.ask(
                 rt,
                 Engine::Record,
                 &self.record,
-                &bytes,
+                bytes,
                 galmuvesh_record_operate,
             ),
-            Command::Read(bytes) => self.read(rt, &bytes),
-            Command::Run(trace) => self.run(rt, &trace),
-            Command::Steps(steps) => self.steps(rt, &steps),
+            Command::Read(bytes) => self.read(rt, bytes),
+            Command::Run(trace) => self.run(rt, trace),
+            Command::Steps(steps) => self.steps(rt, steps),
             Command::Write(room) => self.write(rt, room),
             Command::Derive(room) => self.derive(rt, room),
             Command::Call(signer) => self.pass(rt, signer, galmuvesh_passed_call),
