@@ -23,19 +23,19 @@ verdict_short : (b : Bool) → length (verdict b) ≤ 10
 verdict_short true = omega arith
 verdict_short false = omega arith
 
-policy_short : (p : List ℕ) → length (policy_line p) ≤ 80
+pub policy_short : (p : List ℕ) → length (policy_line p) ≤ 80
 unfolding policy_line
 policy_short p = simp length-append (omega (arith, decimal_short (signers p), decimal_short (targets p), start_short (full p)))
 
-check_short : (i t a : ℕ) → length (check_line i t a) ≤ 80
+pub check_short : (i t a : ℕ) → length (check_line i t a) ≤ 80
 unfolding check_line
 check_short i t a = simp length-append (omega (arith, decimal_short i, decimal_short t, decimal_short (a % 64), verdict_short (eqb (a / 64) 1)))
 
-end_short : (words : ℕ) → length (end_line words) ≤ 80
+pub end_short : (words : ℕ) → length (end_line words) ≤ 80
 unfolding end_line
 end_short words = simp length-append (omega (arith, decimal_short words))
 
-refused_short : (n i : ℕ) → length (refused_line n i) ≤ 80
+pub refused_short : (n i : ℕ) → length (refused_line n i) ≤ 80
 unfolding refused_line
 refused_short n i = simp length-append (omega (arith, decimal_short n, decimal_short i))
 

@@ -1,10 +1,11 @@
 -- Each promise fixes its result, and what is left in the lent buffer: of two that both keep it, one is the other. Assumes nothing.
-use mathlib.Core.Path.{◌≡◌}
+use mathlib.Core.Path.{◌≡◌, refl}
 use mathlib.Core.List.{List}
 use Prim.Native.Nat.{ℕ}
 use Rattle.bits.proofs.Unique.{Fixes, one_result}
 use Rattle.lines.specs.Promise.{Lined}
 use Rattle.lines.specs.contracts as contracts
+use Rattle.lines.proofs.ToldFromReport.from as told_from
 use Rattle.lines.proofs.policy_line as policy_line
 use Rattle.lines.proofs.check_line as check_line
 use Rattle.lines.proofs.end_line as end_line
@@ -15,6 +16,9 @@ use Rattle.lines.proofs.fill as fill
 lined_unique {ℓ} : {W : Type ℓ} (place : List ℕ → W) {lent left other line : List ℕ} {r q : ℕ}
     → Lined r lent left line → Lined q lent other line → (r ≡ q) × (place left ≡ place other)
 lined_unique place h k = (one_result h.count k.count, λ i. place (one_result h.buffer k.buffer i))
+
+pub told_from_unique : Fixes contracts.ToldFromReport.from.ended told_from.Reads.Post
+told_from_unique _ _ _ _ _ _ h k = let same = one_result h k in (λ i. record { number = (same i).number; figure = (same i).figure }, refl)
 
 pub policy_line_unique : Fixes contracts.policy_line.ended policy_line.Reads.Post
 policy_line_unique _ _ _ _ _ _ = lined_unique (λ w. (tt, (w, tt)))

@@ -9,7 +9,9 @@ use native.Mathlib.Omega.{arith}
 use lib.ListN.{length, get_or, take, drop}
 use lib.Seq.{sets, get_or-take}
 use borrow.Author.Tests.{lt-ltb, le-ltb, eq-eqb, ne_eqb}
-use Rattle.answers.specs.Account.{Report, Account, Reports}
+use Rattle.std.specs.Prelude.{Result}
+use Rattle.answers.specs.declared.Stop.{Stop}
+use Rattle.answers.specs.Account.{Report, Account, Reports, report_of}
 use Rattle.beliefs.specs.Policy.{read_number, value_read}
 use Rattle.beliefs.specs.Trace.{run_refusal, run}
 use Rattle.beliefs.proofs.Lists.{front}
@@ -17,7 +19,8 @@ use Rattle.beliefs.proofs.Runs.{Answered}
 use Rattle.beliefs.proofs.Counts.{run_answered}
 use Rattle.policy.specs.Read.{PolicyRead, cut_at}
 use Rattle.lines.specs.Text.{policy_line, word_line, last_line, refused_line, joined, listed, listed_run, read, listing}
-use Rattle.lines.specs.Page.{words_run, places, line_at, pages}
+use Rattle.lines.specs.declared.Told.{Told}
+use Rattle.lines.specs.Page.{words_run, report_in, places, line_at, pages}
 use Rattle.lines.proofs.Short.{line_short}
 use Rattle.lines.proofs.Pages.{pages_join}
 
@@ -133,3 +136,9 @@ module _ (input : List ℕ) where
         let e : read_number (take (cut_at input) input) ≡ 0 = sym read_it.number ∙ z in
         let v : p ≡ value_read (take (cut_at input) input) = read_it.value ∙ rw (eq-eqb _ 0 e) in
         rw (le-ltb 65536 (length input) h, eq-eqb _ 0 e, ← v) (sym (run_text p trace answers left r room k t m))
+
+    -- and so it is from the report as a page is told it
+    pub told : n ≡ 0 → (room : ℕ) (answers left : List ℕ) (r : Result ℕ Stop) (t : Told) → report_in t ≡ report_of r → length trace / 2 ≤ length answers
+        → Reports (report_of r) answers left (run true p trace (length answers)) → 80 ≤ room
+        → let q = report_in t in listing input ≡ pages (line_at p trace left q) room (places trace q) (places trace q) 0
+    told z room answers left r t same k h m = accepted z room answers left (report_in t) k (rw same h) m

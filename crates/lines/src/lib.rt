@@ -18,6 +18,7 @@ use words::{Operation, Word};
 pub const LINE_MOST: usize = 80;
 
 // A line that is composed. It always has room, and `push_str` and `push` ask for a proof of that; `write!` would not say that it succeeds.
+// It is lent and composed anew, and not handed out: a page has many lines, and each would be copied.
 type Line = ArrayString<LINE_MOST>;
 
 // A run's report as a listing tells it: the number for no, 0 for none, and the figure. A number, and not a `Refusal`: a page answers
@@ -59,6 +60,7 @@ pub struct Filled {
 }
 
 // A number, and the character that ends it.
+#[inline]
 fn push_item(line: &mut Line, n: u64, end: char)
     requires ascii { end < 128 }
     requires room { array_string_len line.old + 21 ≤ LINE_MOST }
@@ -86,48 +88,44 @@ fn verdict(granted: bool) -> &'static str
 }
 
 // The policy's line.
-fn policy_text(policy: &Policy) -> Line
-    ensures { result.bytes ≡ policy_line policy.now }
+fn policy_text(line: &mut Line, policy: &Policy)
+    ensures { line.new.bytes ≡ policy_line policy.now }
 {
-    let mut line = Line::new();
+    line.clear();
     line.push_str("policy ");
-    push_item(&mut line, policy::signers(policy), ' ');
-    push_item(&mut line, policy::targets(policy), ' ');
+    push_item(line, policy::signers(policy), ' ');
+    push_item(line, policy::targets(policy), ' ');
     line.push_str(start(policy::is_full(policy)));
-    line
 }
 
 // A check's line. The answer is a byte with its kind, as C reads it and as a page takes it.
-fn check_text(index: usize, target: u8, answer: u8) -> Line
-    ensures { result.bytes ≡ check_line index target answer }
+fn check_text(line: &mut Line, index: usize, target: u8, answer: u8)
+    ensures { line.new.bytes ≡ check_line index target answer }
 {
-    let mut line = Line::new();
-    push_item(&mut line, index as u64, ' ');
-    push_item(&mut line, target as u64, ' ');
+    line.clear();
+    push_item(line, index as u64, ' ');
+    push_item(line, target as u64, ' ');
     line.push_str(verdict(answer / 64 == 1));
-    push_item(&mut line, (answer % 64) as u64, '\n');
-    line
+    push_item(line, (answer % 64) as u64, '\n');
 }
 
 // The last line where every word was run.
-fn end_text(words: u64) -> Line
-    ensures { result.bytes ≡ end_line words }
+fn end_text(line: &mut Line, words: u64)
+    ensures { line.new.bytes ≡ end_line words }
 {
-    let mut line = Line::new();
+    line.clear();
     line.push_str("end ");
-    push_item(&mut line, words, '\n');
-    line
+    push_item(line, words, '\n');
 }
 
 // The last line where a word, or all of it, was refused.
-fn refused_text(number: u8, index: u64) -> Line
-    ensures { result.bytes ≡ refused_line number index }
+fn refused_text(line: &mut Line, number: u8, index: u64)
+    ensures { line.new.bytes ≡ refused_line number index }
 {
-    let mut line = Line::new();
+    line.clear();
     line.push_str("refused ");
-    push_item(&mut line, number as u64, ' ');
-    push_item(&mut line, index, '\n');
-    line
+    push_item(line, number as u64, ' ');
+    push_item(line, index, '\n');
 }
 
 // A line to the front of a buffer, whole or not at all: how many bytes it has.
@@ -146,28 +144,36 @@ fn deliver(line: &Line, out: &mut [u8]) -> Option<usize>
 pub fn policy_line(policy: &Policy, out: &mut [u8]) -> usize
     ensures { Lined result out.old out.new (policy_line policy.now) }
 {
-    deliver(&policy_text(policy), out).unwrap_or(0)
+    let mut line = Line::new();
+    policy_text(&mut line, policy);
+    deliver(&line, out).unwrap_or(0)
 }
 
 // A check's line, by its word index, its target and its answer byte.
 pub fn check_line(index: usize, target: u8, answer: u8, out: &mut [u8]) -> usize
     ensures { Lined result out.old out.new (check_line index target answer) }
 {
-    deliver(&check_text(index, target, answer), out).unwrap_or(0)
+    let mut line = Line::new();
+    check_text(&mut line, index, target, answer);
+    deliver(&line, out).unwrap_or(0)
 }
 
 // The last line of a run that was accepted.
 pub fn end_line(words: u64, out: &mut [u8]) -> usize
     ensures { Lined result out.old out.new (end_line words) }
 {
-    deliver(&end_text(words), out).unwrap_or(0)
+    let mut line = Line::new();
+    end_text(&mut line, words);
+    deliver(&line, out).unwrap_or(0)
 }
 
 // The last line of a run that was refused, and the only one of a refused policy.
 pub fn refused_line(number: u8, index: u64, out: &mut [u8]) -> usize
     ensures { Lined result out.old out.new (refused_line number index) }
 {
-    deliver(&refused_text(number, index), out).unwrap_or(0)
+    let mut line = Line::new();
+    refused_text(&mut line, number, index);
+    deliver(&line, out).unwrap_or(0)
 }
 
 impl Run<'_> {
@@ -179,44 +185,42 @@ impl Run<'_> {
     }
 
     // A word's line where it is a check, nothing where it is not, or is refused. Where the answers are too few the check was not granted.
-    fn word(&self, index: usize) -> Line
-        ensures { result.bytes ≡ word_line self.now.policy.now self.now.trace.now self.now.answers.now index }
+    fn word(&self, line: &mut Line, index: usize)
+        ensures { line.new.bytes ≡ word_line self.now.policy.now self.now.trace.now self.now.answers.now index }
     {
+        line.clear();
         let word = words::word_at(self.trace, index);
-        let Ok(Word { op, .. }) = policy::decode(self.policy, word, index) else {
-            return Line::new();
+        let Ok(Word { op, index: at }) = policy::decode(self.policy, word, index) else {
+            return;
         };
-        match op {
-            Operation::Check(target) => {
-                let answer = self.answers.get(index).copied().unwrap_or(0);
-                check_text(index, target, answer)
-            }
-            _ => Line::new(),
+        if let Operation::Check(target) = op {
+            let answer = self.answers.get(index).copied().unwrap_or(0);
+            check_text(line, at, target, answer);
         }
     }
 
     // The last line, by the report.
-    fn last(&self) -> Line
-        ensures { result.bytes ≡ last_line self.now.report.number self.now.report.figure }
+    fn last(&self, line: &mut Line)
+        ensures { line.new.bytes ≡ last_line self.now.report.number self.now.report.figure }
     {
         let Told { number, figure } = self.report;
         if number == 0 {
-            end_text(figure)
+            end_text(line, figure)
         } else {
-            refused_text(number, figure)
+            refused_text(line, number, figure)
         }
     }
 
     // The line at a place of the listing: the policy's, those of the words that were run, the last.
-    fn line(&self, place: usize) -> Line
-        ensures { result.bytes ≡ run_line self.now place }
+    fn line(&self, line: &mut Line, place: usize)
+        ensures { line.new.bytes ≡ run_line self.now place }
     {
         if place == 0 {
-            policy_text(self.policy)
+            policy_text(line, self.policy)
         } else if place - 1 < self.words() {
-            self.word(place - 1)
+            self.word(line, place - 1)
         } else {
-            self.last()
+            self.last(line)
         }
     }
 }
@@ -225,9 +229,11 @@ impl Run<'_> {
 pub fn fill(run: &Run<'_>, from: usize, out: &mut [u8]) -> Filled
     ensures { Fills result out.old out.new (run_page run.now (length out.old) from) }
 {
+    let mut line = Line::new();
     let mut page = Filled { next: from, len: 0 };
     for place in from..run.words() + 2 {
-        let Some(more) = deliver(&run.line(place), &mut out[page.len..]) else {
+        run.line(&mut line, place);
+        let Some(more) = deliver(&line, &mut out[page.len..]) else {
             return page;
         };
         page = Filled {

@@ -12,7 +12,7 @@ use Rattle.answers.specs.Answer.{answer_of}
 use Rattle.answers.proofs.Refusals.{some_number}
 use Rattle.words.specs.declared.Word.{Word as Held}
 use Rattle.words.specs.Words.{Decoded, Word, Refused, decoding, word_at}
-use Rattle.words.proofs.Words.{Fair, decoded_fair}
+use Rattle.words.proofs.Words.{Fair, decoded_fair, decoded_index}
 use Rattle.beliefs.specs.Policy.{Policy, signers, targets, valid}
 use Rattle.beliefs.specs.Stack.{Stack}
 use Rattle.beliefs.specs.Trace.{step}
@@ -29,6 +29,10 @@ pub record Reads (p : Policy) (trace : List ℕ) (i : ℕ) (x : Held) : Type 0 w
   pub more : 2 * i + 1 < length trace
   pub word : Word x ≡ decoded_at p trace i
   pub policy : valid p ≡ true
+
+-- it holds the index that the run reports
+pub its_index : {p : Policy} {trace : List ℕ} {i : ℕ} {x : Held} → Reads p trace i x → x.index ≡ i
+its_index w = decoded_index _ _ _ _ _ w.word
 
 -- that zeros picture no frame is the engine's to say, at the first word that it serves
 module _ (e : Engine) (p : Policy) (trace lent : List ℕ) where

@@ -55,7 +55,7 @@ pub fn run<E: Engine>(policy: &Policy, trace: &[u8], answers: &mut [u8]) -> Repo
         let Ok(word) = decoded else {
             return Err(decoded.unwrap_err().at(i));
         };
-        answers[i] = stop_at(i, E::serve(policy, &mut state, word.op))?;
+        answers[i] = stop_at(word.index, E::serve(policy, &mut state, word.op))?;
     }
     Ok(words as u64)
 }
@@ -88,7 +88,7 @@ fn frame_run(
         let Ok(word) = decoded else {
             return Err(decoded.unwrap_err().at(i));
         };
-        match stop_at(i, passed::serve(policy, state, word.op))? {
+        match stop_at(word.index, passed::serve(policy, state, word.op))? {
             Next::Up => {
                 answers[i] = 0;
                 return Ok(Left::Back(i + 1));

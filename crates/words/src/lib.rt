@@ -146,5 +146,5 @@ pub fn word_at(trace: &[u8], index: usize) -> u16
     if trace.len() / 2 <= index {
         return 0;
     }
-    u16::from_be_bytes([trace[2 * index], trace[2 * index + 1]])
+    256 * u16::from(trace[2 * index]) + u16::from(trace[2 * index + 1])
 }

@@ -4,4 +4,4 @@ use Rattle.lines.proofs.end_text.Goals as goal
 
 pub returns : goal.returns
 unfolding end_line
-returns c = rw (c.push_item.ensures.text, c.push_str.ensures.bytes, c.new-line.ensures)
+returns c = rw (c.push_item.ensures.text, c.push_str.ensures.bytes, c.clear.ensures)

@@ -9,7 +9,7 @@ use Rattle.lines.proofs.fill.Goals as goal
 use Rattle.lines.proofs.fill.Goals.{After-line}
 
 -- the line at the page's next place
-next_line : (c : After-line) → c.line.result.bytes ≡ run_line c.args.run.now c.loop-place.page.next
+next_line : (c : After-line) → c.line.new.line.bytes ≡ run_line c.args.run.now c.loop-place.page.next
 next_line c = c.line.ensures ∙ ap (run_line c.args.run.now) (sym c.loop-place.invariant.0)
 
 pub returns-in_default : goal.returns-in_default

@@ -13,7 +13,7 @@ use Rattle.passed.specs.declared.Next.{Next}
 use Rattle.passed.specs.Does.{leading}
 use Rattle.runner.proofs.Progress.{not_barred}
 use Rattle.runner.proofs.Nested.{Onward, onward, leaves_over, leaves_bad_word, leaves_bad_op, leaves_up, onward_stay, leaves_down, onward_back}
-use Rattle.runner.proofs.Going.{Reads}
+use Rattle.runner.proofs.Going.{Reads, its_index}
 use Rattle.runner.proofs.+frame_run.Goals as goal
 use Rattle.runner.proofs.+frame_run.Goals.{Start, After-decode_at-decoded, In-Ok, In_ok-stop_at, In-Back}
 
@@ -49,8 +49,8 @@ pub returns-in_err-stop_at : goal.returns-in_err-stop_at
 returns-in_err-stop_at t c =
     let p = err_from_is_err_and c.from_residual.result c.from_residual.ensures.1 in
     let q = stopped_err _ _ _ (sym c.in_err-stop_at.ensures) in
-    rw (p.1, p.2, q.1)
-    (leaves_bad_op c.loop-i.invariant.1 (word t (goal.at.returns-in_err-stop_at t c).In-Ok) c.serve.ensures _ (ap leading q.0))
+    let w = word t (goal.at.returns-in_err-stop_at t c).In-Ok in
+    rw (p.1, p.2, q.1, its_index w) (leaves_bad_op c.loop-i.invariant.1 w c.serve.ensures _ (ap leading q.0))
 
 pub bounds-answers-i : goal.bounds-answers-i
 bounds-answers-i t c = omega (arith, ready t (goal.at.bounds-answers-i t c).Start, c.loop-i.invariant.0)

@@ -9,7 +9,7 @@ use Rattle.std.proofs.lemmas.Result.{err_from_is_err_and}
 use Rattle.answers.proofs.Refusals.{some_number, stopped_ok, stopped_err}
 use Rattle.beliefs.specs.Policy.{valid}
 use Rattle.runner.proofs.Progress.{not_barred, at_once, in_the_end}
-use Rattle.runner.proofs.Going.{Reads, start, over, bad_word, bad_op, onward}
+use Rattle.runner.proofs.Going.{Reads, its_index, start, over, bad_word, bad_op, onward}
 use Rattle.runner.proofs.run.Given.{Over}
 use Rattle.runner.proofs.run.Goals as goal
 use Rattle.runner.proofs.run.Goals.{In_ok-refusal, In-Ok, After-decode_at-decoded}
@@ -48,9 +48,9 @@ pub returns-in_err-answers : goal.returns-in_err-answers
 returns-in_err-answers g c =
     let p = err_from_is_err_and c.from_residual-in_err-answers.result c.from_residual-in_err-answers.ensures.1 in
     let q = stopped_err _ _ _ (sym c.in_err-answers.ensures) in
-    rw (p.1, p.2, q.1)
-    (in_the_end _ _ _ _ (sym c.in_ok-refusal.ensures) _ _ _ (bad_op _ _ _ _ _ _ _ c.loop-i.invariant.1 _
-    (word g (goal.at.returns-in_err-answers g c).In-Ok) _ _ c.serve.ensures _ q.0))
+    let w = word g (goal.at.returns-in_err-answers g c).In-Ok in
+    rw (p.1, p.2, q.1, its_index w)
+    (in_the_end _ _ _ _ (sym c.in_ok-refusal.ensures) _ _ _ (bad_op _ _ _ _ _ _ _ c.loop-i.invariant.1 _ w _ _ c.serve.ensures _ q.0))
 
 pub bounds-answers-i : goal.bounds-answers-i
 bounds-answers-i g c = omega (arith, ready g (goal.at.bounds-answers-i g c).In_ok-refusal, c.loop-i.invariant.0)

@@ -7,7 +7,6 @@ use lib.ListN.{get_or}
 use Rattle.words.specs.declared.Operation.{Operation}
 use Rattle.words.specs.declared.Operation.TheVariants.{Call, Return, Enable, Disable, Revert, Check}
 use Rattle.words.specs.Words.{Decoded, decoding}
-use Rattle.words.proofs.Words.{decoded_index}
 use Rattle.beliefs.specs.Policy.{reading}
 use Rattle.lines.specs.Text.{op_line, decoded_line, word_line}
 use Rattle.lines.proofs.Run.word.Goals as goal
@@ -32,14 +31,13 @@ line c =
     ap (λ (d : Decoded). decoded_line d (get_or run.answers.now c.args.index 0)) (sym said)
 
 pub returns-in_default : goal.returns-in_default
-returns-in_default c = rw (line (goal.at.returns-in_default c).After-decode, c.in_default.is) c.new.ensures
+returns-in_default c = rw (line (goal.at.returns-in_default c).After-decode, c.in_default.is) c.clear.ensures
 
 pub returns-in-Check : goal.returns-in-Check
 returns-in-Check c =
     let answer : c.unwrap_or-answer.result ≡ get_or c.args.self.now.answers.now c.args.index 0 = search rules in
-    let index : c.in-Ok.field-0.index ≡ c.args.index = decoded_index _ _ _ _ c.in-Ok.field-0 (sym (ap decoding c.in-Ok.is) ∙ c.decode.ensures) in
-    rw (line (goal.at.returns-in-Check c).After-decode, c.in-Ok.is, c.in-Check.is, index, ← answer) c.check_text.ensures
+    rw (line (goal.at.returns-in-Check c).After-decode, c.in-Ok.is, c.in-Check.is, ← answer) c.check_text.ensures
 
 pub returns-in_default-op : goal.returns-in_default-op
 returns-in_default-op c =
-    rw (line (goal.at.returns-in_default-op c).After-decode, c.in-Ok.is, other c.in-Ok.field-0.op _ _ (search rules)) c.new-in_default-op.ensures
+    rw (line (goal.at.returns-in_default-op c).After-decode, c.in-Ok.is, other c.in-Ok.field-0.op _ _ (search rules)) c.clear.ensures
