@@ -20,12 +20,16 @@ use Rattle.answers.proofs.done as done
 use Rattle.answers.proofs.verdict as verdict
 use Rattle.answers.proofs.verdict_byte as verdict_byte
 use Rattle.answers.proofs.unless as unless
+use Rattle.answers.proofs.StopFromRefusal.from as from
 
 pub number_unique : Fixes contracts.Refusal.number.ended number.Reads.Post
 number_unique _ _ _ _ _ _ = alone
 
 pub at_unique : Fixes contracts.Refusal.at.ended at.Reads.Post
 at_unique _ _ _ _ _ _ = alone
+
+pub from_unique : Fixes contracts.StopFromRefusal.from.ended from.Reads.Post
+from_unique _ _ _ _ _ _ = alone
 
 pub done_unique : Fixes contracts.done.ended done.Reads.Post
 done_unique _ _ _ _ _ _ = alone

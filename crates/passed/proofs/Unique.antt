@@ -4,6 +4,8 @@ use Rattle.bits.proofs.Unique.{Fixes, one_result, alone}
 use Rattle.answers.proofs.Unique.{refused_unique}
 use Rattle.passed.proofs.Led.{one_led}
 use Rattle.passed.specs.contracts as contracts
+use Rattle.passed.proofs.PassedFromState.from as passed_from
+use Rattle.passed.proofs.StateFromPassed.from as state_from
 use Rattle.passed.proofs.Passed.fresh as fresh
 use Rattle.passed.proofs.Passed.call as call
 use Rattle.passed.proofs.Passed.enable as enable
@@ -13,6 +15,12 @@ use Rattle.passed.proofs.Passed.check as check
 use Rattle.passed.proofs.serve as serve
 use Rattle.passed.proofs.valid as valid
 use Rattle.passed.proofs.refusal as refusal
+
+pub passed_from_unique : Fixes contracts.PassedFromState.from.ended passed_from.Reads.Post
+passed_from_unique _ _ _ _ _ _ = alone
+
+pub state_from_unique : Fixes contracts.StateFromPassed.from.ended state_from.Reads.Post
+state_from_unique _ _ _ _ _ _ = alone
 
 pub fresh_unique : Fixes contracts.Passed.fresh.ended fresh.Reads.Post
 fresh_unique _ _ _ _ _ _ h k = alone h.exact k.exact

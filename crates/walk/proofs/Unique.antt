@@ -7,6 +7,9 @@ use Rattle.walk.proofs.frame as frame
 use Rattle.walk.proofs.check as check
 use Rattle.walk.proofs.serve as serve
 use Rattle.walk.proofs.valid as valid
+use Rattle.walk.proofs.WalkEngine.fresh as engine_fresh
+use Rattle.walk.proofs.WalkEngine.valid as engine_valid
+use Rattle.walk.proofs.WalkEngine.serve as engine_serve
 
 pub depth_unique : Fixes contracts.depth.ended depth.Reads.Post
 depth_unique _ _ _ _ _ _ = alone
@@ -22,3 +25,13 @@ serve_unique _ _ _ _ _ _ h k = gives_unique (λ w. (tt, (w, (tt, tt)))) h.gives 
 
 pub valid_unique : Fixes contracts.valid.ended valid.Reads.Post
 valid_unique _ _ _ _ _ _ = alone
+
+-- as an engine
+pub engine_fresh_unique : Fixes contracts.WalkEngine.fresh.ended engine_fresh.Reads.Post
+engine_fresh_unique _ _ _ _ _ _ = alone
+
+pub engine_valid_unique : Fixes contracts.WalkEngine.valid.ended engine_valid.Reads.Post
+engine_valid_unique _ _ _ _ _ _ = alone
+
+pub engine_serve_unique : Fixes contracts.WalkEngine.serve.ended engine_serve.Reads.Post
+engine_serve_unique _ _ _ _ _ _ h k = gives_unique (λ w. (tt, (w, (tt, tt)))) h.gives k.gives
