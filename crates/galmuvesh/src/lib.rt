@@ -62,7 +62,7 @@ fn answered(given: Answer, answer: &mut u8) -> u8
             *answer = byte;
             0
         }
-        Err(why) => why.number(),
+        Err(refusal) => refusal.number(),
     }
 }
 

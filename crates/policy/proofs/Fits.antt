@@ -25,7 +25,7 @@ module _ (p : List ℕ) (h : length p ≡ 35) where
   pub row_found : (s : ℕ) → get_or (take 32 (drop 3 p)) s 0 ≡ row p s
   row_found s = ap (λ (l : List ℕ). get_or l s 0) rows_are ∙ get_or-drop 3 p s 0
 
-  rows_parted : signers p ≤ 32
+  pub rows_parted : signers p ≤ 32
       → each (row_fits p) 32 ≡ (all_below (take (signers p) (drop 3 p)) (targets p) && all_below (take (32 - signers p) (drop (3 + signers p) p)) 0)
   unfolding row_fits
   rows_parted few =
