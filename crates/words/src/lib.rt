@@ -139,7 +139,8 @@ pub fn decode(signers: u64, targets: u64, word: u16, index: usize) -> Result<Wor
     Ok(Word { op, index })
 }
 
-// The word at an index of a trace, its first byte the high one: 0 past the last whole word.
+// The word at an index of a trace, its first byte the high one: 0 past the last whole word. A sum, which the compiler takes apart into the
+// word's fields: by `from_be_bytes` it turns two bytes round at each word, and a short run takes a quarter more.
 pub fn word_at(trace: &[u8], index: usize) -> u16
     ensures { result ≡ word_at trace.now index }
 {
